@@ -1,0 +1,12 @@
+//! The outside: what is read, written and kept, as two traits with ghost content.
+//!
+//! - `Desk` has two inlets and two outlets; `Slots` has two numbered byte lists that outlive the process.
+//! - `MemDesk` and `MemSlots` stand in memory and fail on demand; `FileDesk` and `FileSlots` are the real ones.
+//! - `read_to_end` and `write_all` work over any desk.
+#![tactic(auto)]
+
+mod desk;
+mod transfer;
+
+pub use desk::{Desk, Failed, Inlet, Outlet};
+pub use transfer::{ReadError, read_to_end, write_all};
