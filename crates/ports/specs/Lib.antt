@@ -1,2 +1,5 @@
 pub mod Outside
+pub mod Buffers
+pub mod Calls
 pub mod Desk
+pub mod MemDesk

@@ -5,8 +5,14 @@
 //! - `read_to_end` and `write_all` work over any desk.
 #![tactic(auto)]
 
+mod buffers;
+mod calls;
 mod desk;
+mod memory_desk;
+mod room;
 mod transfer;
 
 pub use desk::{Desk, Failed, Inlet, Outlet};
+pub use memory_desk::MemDesk;
+pub use room::Room;
 pub use transfer::{ReadError, read_to_end, write_all};

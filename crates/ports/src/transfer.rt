@@ -53,7 +53,12 @@ impl From<Failed> for ReadError {
 
 /// Reads an inlet to its end, which has to come within `limit` bytes. At most `limit + 1` bytes are taken.
 /// After an error the bytes that were taken are lost.
-pub fn read_to_end<D: Desk>(alloc: Global, desk: &mut D, from: Inlet, limit: usize) -> Result<Vec<u8>, ReadError>
+pub fn read_to_end<D: Desk>(
+    alloc: Global,
+    desk: &mut D,
+    from: Inlet,
+    limit: usize,
+) -> Result<Vec<u8>, ReadError>
     ensures all { IfOk result (λ bytes. BothTell (TakesAll from bytes.items) (D.told desk.old) (D.told desk.new)) }
     ensures short { IfOk result (λ bytes. length bytes.items ≤ limit) }
     ensures too_long { IsErrOf result ReadError.TooLong → WhereTold (λ t. limit < length (left from t)) (D.told desk.old) }
@@ -68,7 +73,13 @@ pub fn read_to_end<D: Desk>(alloc: Global, desk: &mut D, from: Inlet, limit: usi
 }
 
 // Reads block by block, and puts the blocks one behind the other.
-fn read_blocks<D: Desk>(desk: &mut D, from: Inlet, limit: usize, block: &mut [u8], bytes: &mut Vec<u8>) -> Result<(), ReadError>
+fn read_blocks<D: Desk>(
+    desk: &mut D,
+    from: Inlet,
+    limit: usize,
+    block: &mut [u8],
+    bytes: &mut Vec<u8>,
+) -> Result<(), ReadError>
     requires room { 0 < length block.old }
     requires empty { bytes.old.items ≡ [] }
     ensures all { OnOk result (BothTell (TakesAll from bytes.new.items) (D.told desk.old) (D.told desk.new)) }
