@@ -3,3 +3,6 @@ pub mod Buffers
 pub mod Calls
 pub mod Desk
 pub mod MemDesk
+pub mod MemSlots
+pub mod Slots
+pub mod Records

@@ -1,7 +1,9 @@
 //! Byte lists that are read from the front, or grow within their capacity.
-ghost use Rattle.std.specs.Prelude.{◌≡◌, ◌+◌, ◌-◌, ◌≤◌, ◌++◌, min, take, drop, length, vec_len, vec_capacity, IfOk, Some, None};
+ghost use Rattle.std.specs.Prelude.{◌≡◌, ◌+◌, ◌-◌, ◌≤◌, ◌++◌, min, max, replicate, take, drop, length, vec_len, vec_capacity, IfOk, Some, None};
 ghost use Rattle.std.specs.Option.{option_map};
 ghost use Rattle.ports.specs.Buffers.{rest_from, path_if};
+ghost use Rattle.ports.specs.Slots.{put_at};
+ghost use Rattle.ports.specs.Records.{write_room};
 
 use std::alloc::{AllocError, Global};
 
@@ -61,6 +63,44 @@ pub fn append(list: &mut Vec<u8>, bytes: &[u8])
     ensures capacity { vec_capacity list.old ≤ vec_capacity list.new }
 {
     let _ = list.extend_from_slice(bytes);
+}
+
+/// Writes a piece over what is there.
+fn overwrite(list: &mut Vec<u8>, at: usize, piece: &[u8])
+    requires { at + length piece.now ≤ vec_len list.old }
+    ensures items { list.new.items ≡ take at list.old.items ++ (piece.now ++ drop (at + length piece.now) list.old.items) }
+    ensures len { vec_len list.new ≡ vec_len list.old }
+    ensures capacity { vec_capacity list.new ≡ vec_capacity list.old }
+{
+    for (i, byte) in piece.iter().enumerate() {
+        list[at + i] = *byte;
+    }
+}
+
+/// Puts zeros behind the list up to a length.
+fn lengthen(list: &mut Vec<u8>, end: usize)
+    requires { end ≤ vec_capacity list.old }
+    ensures items { list.new.items ≡ list.old.items ++ replicate (end - vec_len list.old) 0 }
+    ensures len { vec_len list.new ≡ max end (vec_len list.old) }
+    ensures capacity { vec_capacity list.old ≤ vec_capacity list.new }
+{
+    if list.len() < end {
+        let _ = list.resize(end, 0);
+    }
+}
+
+/// Writes a piece at a place within the capacity, behind zeros where it lies past the end.
+pub fn put(list: &mut Vec<u8>, pos: usize, piece: &[u8])
+    requires { vec_len list.old + write_room pos (length piece.now) (vec_len list.old) ≤ vec_capacity list.old }
+    ensures items { list.new.items ≡ put_at pos piece.now list.old.items }
+    ensures len { vec_len list.new ≤ vec_len list.old + write_room pos (length piece.now) (vec_len list.old) }
+    ensures capacity { vec_capacity list.old ≤ vec_capacity list.new }
+{
+    if piece.is_empty() {
+        return;
+    }
+    lengthen(list, pos + piece.len());
+    overwrite(list, pos, piece);
 }
 
 /// The path that was last bound, kept in room that was made before.

@@ -9,10 +9,16 @@ mod buffers;
 mod calls;
 mod desk;
 mod memory_desk;
+mod memory_slots;
+mod record;
 mod room;
+mod slots;
 mod transfer;
 
 pub use desk::{Desk, Failed, Inlet, Outlet};
 pub use memory_desk::MemDesk;
+pub use memory_slots::MemSlots;
+pub use record::{SlotCall, SlotEntry};
 pub use room::Room;
+pub use slots::Slots;
 pub use transfer::{ReadError, read_to_end, write_all};
