@@ -43,8 +43,8 @@ after_call call failed range ranges = ranges
 
 abbrev pub after_entry : ℕ → List Range → SlotEntry → List Range
 after_entry slot ranges entry = if entry.slot == slot
-  then after_call entry.call entry.failed (record { start = entry.pos; size = entry.len }) ranges
-  else ranges
+    then after_call entry.call entry.failed (record { start = entry.pos; size = entry.len }) ranges
+    else ranges
 
 -- the ranges of a slot that were written since its last sync that succeeded
 abbrev pub unsynced_of : ℕ → List SlotEntry → List Range

@@ -67,9 +67,10 @@ impl MemSlots {
         room: Room,
     ) -> Result<MemSlots, AllocError>
         ensures told { IfOk result (λ slots. told_of slots ≡ record {
-            slot0 = record { bytes = slot0.now; unsynced = [] };
-            slot1 = record { bytes = slot1.now; unsynced = [] };
-            path = Option.None }) }
+          slot0 = record { bytes = slot0.now; unsynced = [] };
+          slot1 = record { bytes = slot1.now; unsynced = [] };
+          path = Option.None;
+        }) }
         ensures bad { IfOk result (λ slots. bad_of slots ≡ bad.now) }
         ensures entries { IfOk result (λ slots. entries_of slots ≡ []) }
         ensures written { IfOk result (λ slots. written_of slots ≡ []) }
@@ -143,5 +144,207 @@ impl MemSlots {
         ensures { result ≡ room_of self.now }
     {
         self.room
+    }
+}
+
+impl Slots for MemSlots {
+    ghost use Rattle.std.specs.Prelude.{Some};
+    ghost use Rattle.ports.specs.MemSlots.{told_of, bad_of, entries_of, written_of, paths_of, room_of, faults_of, call_fails, bind_fails, write_fails, room_for, IsUnmoved};
+
+    ghost told = { λ slots. Some (told_of slots) };
+
+    ghost faults = { faults_of };
+
+    fn bind(&mut self, path: &str) -> Result<(), Failed>
+        ensures bound { OnOk result (told_of self.new ≡ with_path path.now (told_of self.old)) }
+        ensures err { OnErr result (told_of self.new ≡ told_of self.old) }
+        ensures cause { Cause (IsErr result) (faults_of self.old) (faults_of self.new) }
+
+        // Exactly which call fails, and what is kept of it.
+        ensures fails { is_err result ≡ bind_fails (length path.now) self.old }
+        ensures faults { faults_of self.new ≡ faults_after (is_err result) (faults_of self.old) }
+        ensures entries { entries_of self.new ≡ noted (room_of self.old).calls (entries_of self.old) (record {
+          call = SlotCall.Bind;
+          slot = 0;
+          pos = 0;
+          len = length path.now;
+          failed = is_err result;
+        }) }
+        ensures paths { paths_of self.new ≡ (if is_err result then paths_of self.old else paths_of self.old ++ path.now) }
+        ensures written { written_of self.new ≡ written_of self.old }
+        ensures room { room_of self.new ≡ record (room_of self.old) {
+          paths = (room_of self.old).paths - (if is_err result then 0 else length path.now);
+          calls = (room_of self.old).calls - 1;
+        } }
+        ensures bad { bad_of self.new ≡ bad_of self.old }
+    {
+        let len = path.len();
+        let admitted = admits(self.room.calls, &self.bad, &self.entries, SlotCall::Bind);
+        let failed = !admitted || self.room.paths < len;
+        let entry = SlotEntry {
+            call: SlotCall::Bind,
+            slot: 0,
+            pos: 0,
+            len,
+            failed,
+        };
+        note(
+            &mut self.entries,
+            &mut self.room.calls,
+            &mut self.faults,
+            entry,
+        );
+        if failed {
+            return Err(Failed);
+        }
+        self.room.paths -= len;
+        self.path_at = self.paths.len();
+        self.is_bound = true;
+        append(&mut self.paths, path.as_bytes());
+        Ok(())
+    }
+
+    fn read_at(&mut self, slot: u8, pos: u64, buf: &mut [u8]) -> Result<usize, Failed>
+        requires { slot < 2 }
+        ensures within { IfOk result (λ k. k ≤ length buf.old) }
+        ensures bytes { IfOk result (λ k. take k buf.new ≡ take k (drop pos (slot_of slot (told_of self.old)).bytes)) }
+        ensures end { IfOk result (λ k. 0 < length buf.old → (k ≡ 0) ↔ IsPastEnd slot pos (told_of self.old)) }
+        ensures told { told_of self.new ≡ told_of self.old }
+        ensures cause { Cause (IsErr result) (faults_of self.old) (faults_of self.new) }
+
+        // Exactly which call fails, how much is read, and what is kept of it.
+        ensures fails { is_err result ≡ call_fails SlotCall.Read self.old }
+        ensures count { IfOk result (λ k. k ≡ min (length buf.old) (length (slot_of slot (told_of self.old)).bytes - pos)) }
+        ensures faults { faults_of self.new ≡ faults_after (is_err result) (faults_of self.old) }
+        ensures entries { entries_of self.new ≡ noted (room_of self.old).calls (entries_of self.old) (record {
+          call = SlotCall.Read;
+          slot = slot;
+          pos = pos;
+          len = length buf.old;
+          failed = is_err result;
+        }) }
+        ensures paths { paths_of self.new ≡ paths_of self.old }
+        ensures written { written_of self.new ≡ written_of self.old }
+        ensures room { room_of self.new ≡ record (room_of self.old) { calls = (room_of self.old).calls - 1 } }
+        ensures bad { bad_of self.new ≡ bad_of self.old }
+    {
+        let len = buf.len();
+        let failed = !admits(self.room.calls, &self.bad, &self.entries, SlotCall::Read);
+        let entry = SlotEntry {
+            call: SlotCall::Read,
+            slot,
+            pos,
+            len,
+            failed,
+        };
+        note(
+            &mut self.entries,
+            &mut self.room.calls,
+            &mut self.faults,
+            entry,
+        );
+        if failed {
+            return Err(Failed);
+        }
+        let bytes = self.slot(slot);
+        let at = bytes.len().min(pos as usize);
+        Ok(copy_part(bytes, at, buf, len))
+    }
+
+    fn write_at(&mut self, slot: u8, pos: u64, bytes: &[u8]) -> Result<(), Failed>
+        requires { slot < 2 }
+        ensures written { OnOk result (told_of self.new ≡ with_slot slot (after_write pos bytes.now (slot_of slot (told_of self.old))) (told_of self.old)) }
+        ensures torn { OnErr result (ChangesSlot slot (IsTorn (record { start = pos; size = length bytes.now })) (told_of self.old) (told_of self.new)) }
+        ensures cause { Cause (IsErr result) (faults_of self.old) (faults_of self.new) }
+
+        // Exactly which call fails, and what is kept of it.
+        ensures fails { is_err result ≡ write_fails slot pos (length bytes.now) self.old }
+        ensures unmoved { OnErr result (IsUnmoved (told_of self.old) (told_of self.new)) }
+        ensures faults { faults_of self.new ≡ faults_after (is_err result) (faults_of self.old) }
+        ensures entries { entries_of self.new ≡ noted (room_of self.old).calls (entries_of self.old) (record {
+          call = SlotCall.Write;
+          slot = slot;
+          pos = pos;
+          len = length bytes.now;
+          failed = is_err result;
+        }) }
+        ensures paths { paths_of self.new ≡ paths_of self.old }
+        ensures pieces { written_of self.new ≡ (if is_err result then written_of self.old else written_of self.old ++ bytes.now) }
+        ensures room { room_of self.new ≡ record (room_of self.old) {
+          bytes = (room_of self.old).bytes - (if is_err result then 0 else room_for slot pos (length bytes.now) self.old);
+          calls = (room_of self.old).calls - 1;
+        } }
+        ensures bad { bad_of self.new ≡ bad_of self.old }
+    {
+        let len = bytes.len();
+        let size = write_room(pos, len, self.slot(slot).len());
+        let admitted = admits(self.room.calls, &self.bad, &self.entries, SlotCall::Write);
+        let failed = !admitted || (self.room.bytes as u128) < size;
+        let entry = SlotEntry {
+            call: SlotCall::Write,
+            slot,
+            pos,
+            len,
+            failed,
+        };
+        note(
+            &mut self.entries,
+            &mut self.room.calls,
+            &mut self.faults,
+            entry,
+        );
+        if failed {
+            return Err(Failed);
+        }
+        self.room.bytes -= size as usize;
+        append(&mut self.written, bytes);
+        if slot == 0 {
+            put(&mut self.slot0, pos as usize, bytes);
+        } else {
+            put(&mut self.slot1, pos as usize, bytes);
+        }
+        Ok(())
+    }
+
+    fn sync(&mut self, slot: u8) -> Result<(), Failed>
+        requires { slot < 2 }
+        ensures synced { OnOk result (told_of self.new ≡ with_slot slot (after_sync (slot_of slot (told_of self.old))) (told_of self.old)) }
+        ensures scrambled { OnErr result (ChangesSlot slot IsScrambled (told_of self.old) (told_of self.new)) }
+        ensures cause { Cause (IsErr result) (faults_of self.old) (faults_of self.new) }
+
+        // Exactly which call fails, and what is kept of it.
+        ensures fails { is_err result ≡ call_fails SlotCall.Sync self.old }
+        ensures unmoved { IsUnmoved (told_of self.old) (told_of self.new) }
+        ensures faults { faults_of self.new ≡ faults_after (is_err result) (faults_of self.old) }
+        ensures entries { entries_of self.new ≡ noted (room_of self.old).calls (entries_of self.old) (record {
+          call = SlotCall.Sync;
+          slot = slot;
+          pos = 0;
+          len = 0;
+          failed = is_err result;
+        }) }
+        ensures paths { paths_of self.new ≡ paths_of self.old }
+        ensures written { written_of self.new ≡ written_of self.old }
+        ensures room { room_of self.new ≡ record (room_of self.old) { calls = (room_of self.old).calls - 1 } }
+        ensures bad { bad_of self.new ≡ bad_of self.old }
+    {
+        let failed = !admits(self.room.calls, &self.bad, &self.entries, SlotCall::Sync);
+        let entry = SlotEntry {
+            call: SlotCall::Sync,
+            slot,
+            pos: 0,
+            len: 0,
+            failed,
+        };
+        note(
+            &mut self.entries,
+            &mut self.room.calls,
+            &mut self.faults,
+            entry,
+        );
+        if failed {
+            return Err(Failed);
+        }
+        Ok(())
     }
 }

@@ -1,8 +1,9 @@
 //! The record of the calls of slots in memory, and the calls that are to fail.
-ghost use Rattle.std.specs.Prelude.{◌≡◌, ◌+◌, ◌-◌, ◌≤◌, not, length, vec_len, vec_capacity};
+ghost use Rattle.std.specs.Prelude.{◌≡◌, ◌+◌, ◌-◌, ◌≤◌, not, IsTrue, length, vec_len, vec_capacity};
 ghost use Rattle.std.specs.List.{list_any};
 ghost use Rattle.ports.specs.Records.{is_kind, count_of, names, is_bad_call, noted};
 ghost use Rattle.ports.specs.Calls.{faults_after};
+ghost use Rattle.ports.specs.Outside.{Cause};
 
 /// A kind of call. `Any` is used only to name calls by their number among all.
 #[derive(Clone, Copy, Debug, PartialEq, Eq)]
@@ -39,14 +40,23 @@ pub fn count_of(call: SlotCall, entries: &[SlotEntry]) -> usize
     ensures count { result ≡ count_of call entries.now }
     ensures within { result ≤ length entries.now }
 {
-    entries.iter().filter(|entry| is_kind(entry.call, call)).count()
+    entries
+        .iter()
+        .filter(|entry| is_kind(entry.call, call))
+        .count()
 }
 
 /// Whether the next call may go on: there is room for a call, and the list does not name it.
 pub fn admits(room: usize, bad: &[(SlotCall, u64)], entries: &[SlotEntry], call: SlotCall) -> bool
     ensures { result ≡ not (is_bad_call room bad.now entries.now call) }
 {
-    room > 0 && !is_named(bad, call, count_of(call, entries) as u64 + 1, entries.len() as u64 + 1)
+    room > 0
+        && !is_named(
+            bad,
+            call,
+            count_of(call, entries) as u64 + 1,
+            entries.len() as u64 + 1,
+        )
 }
 
 /// Puts a call on record, if there is room for one, and counts its fault.
@@ -56,6 +66,7 @@ pub fn note(entries: &mut Vec<SlotEntry>, room: &mut usize, faults: &mut u64, en
     ensures fits { vec_len entries.new + room.new ≤ vec_capacity entries.new }
     ensures room { room.new ≡ room.old - 1 }
     ensures faults { faults.new ≡ faults_after entry.failed faults.old }
+    ensures cause { Cause (IsTrue entry.failed) faults.old faults.new }
 {
     if *room > 0 {
         *room -= 1;
