@@ -5,4 +5,5 @@ pub mod Desk
 pub mod MemDesk
 pub mod MemSlots
 pub mod Slots
+pub mod SlotFile
 pub mod Records
