@@ -2,6 +2,8 @@ pub mod Outside
 pub mod Buffers
 pub mod Calls
 pub mod Desk
+pub mod FileDesk
+pub mod FileSlots
 pub mod MemDesk
 pub mod MemSlots
 pub mod Slots

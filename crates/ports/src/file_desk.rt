@@ -1,5 +1,7 @@
 //! The real desk: files and the standard output.
-ghost use Rattle.std.specs.Prelude.{◌≡◌, ℕ, None, IfOk};
+ghost use Rattle.std.specs.Prelude.{◌≡◌, ℕ, ◌<◌, ◌≤◌, length, is_err, IsErr, None, IfOk};
+ghost use Rattle.ports.specs.Calls.{faults_after};
+ghost use Rattle.ports.specs.Outside.{Cause};
 
 use crate::files::{count_fault, print_some, read_some, write_some};
 use crate::{Desk, Failed, Inlet, Outlet};
@@ -22,10 +24,12 @@ pub struct FileDesk<R: Files + Print + Drop> {
 }
 
 impl<R: Files + Print + Drop> FileDesk<R> {
+    ghost use Rattle.ports.specs.FileDesk.{read_faults_of, write_faults_of};
+
     /// Nothing is bound, and nothing has failed.
     pub fn new(rt: R) -> FileDesk<R>
-        ensures read_faults { ⟦<FileDesk<R> as Desk>⟧.read_faults result ≡ 0 }
-        ensures write_faults { ⟦<FileDesk<R> as Desk>⟧.write_faults result ≡ 0 }
+        ensures read_faults { read_faults_of result ≡ 0 }
+        ensures write_faults { write_faults_of result ≡ 0 }
     {
         FileDesk {
             rt,
@@ -39,27 +43,33 @@ impl<R: Files + Print + Drop> FileDesk<R> {
 
     /// How often `bind_in` and `read` have failed.
     pub fn read_faults(&self) -> u64
-        ensures { result ≡ ⟦<FileDesk<R> as Desk>⟧.read_faults self.now }
+        ensures { result ≡ read_faults_of self.now }
     {
         self.read_faults
     }
 
     /// How often `bind_out` and `write` have failed.
     pub fn write_faults(&self) -> u64
-        ensures { result ≡ ⟦<FileDesk<R> as Desk>⟧.write_faults self.now }
+        ensures { result ≡ write_faults_of self.now }
     {
         self.write_faults
     }
 }
 
 impl<R: Files + Print + Drop> Desk for FileDesk<R> {
+    ghost use Rattle.ports.specs.FileDesk.{read_faults_of, write_faults_of};
+
     ghost told = { λ _. None };
 
-    ghost read_faults = { λ desk. desk.read_faults };
+    ghost read_faults = { read_faults_of };
 
-    ghost write_faults = { λ desk. desk.write_faults };
+    ghost write_faults = { write_faults_of };
 
-    fn bind_in(&mut self, from: Inlet, path: &str) -> Result<(), Failed> {
+    fn bind_in(&mut self, from: Inlet, path: &str) -> Result<(), Failed>
+        ensures faults { read_faults_of self.new ≡ faults_after (is_err result) (read_faults_of self.old) }
+        ensures cause { Cause (IsErr result) (read_faults_of self.old) (read_faults_of self.new) }
+        ensures same { write_faults_of self.new ≡ write_faults_of self.old }
+    {
         let Ok(file) = fs::open(&self.rt, path) else {
             count_fault(&mut self.read_faults, true);
             return Err(Failed);
@@ -71,7 +81,12 @@ impl<R: Files + Print + Drop> Desk for FileDesk<R> {
         Ok(())
     }
 
-    fn bind_out(&mut self, _to: Outlet, path: &str) -> Result<(), Failed> {
+    fn bind_out(&mut self, _to: Outlet, path: &str) -> Result<(), Failed>
+        requires { _to ≡ Outlet.Proof }
+        ensures faults { write_faults_of self.new ≡ faults_after (is_err result) (write_faults_of self.old) }
+        ensures cause { Cause (IsErr result) (write_faults_of self.old) (write_faults_of self.new) }
+        ensures same { read_faults_of self.new ≡ read_faults_of self.old }
+    {
         let Ok(file) = fs::create(&self.rt, path) else {
             count_fault(&mut self.write_faults, true);
             return Err(Failed);
@@ -80,7 +95,12 @@ impl<R: Files + Print + Drop> Desk for FileDesk<R> {
         Ok(())
     }
 
-    fn read(&mut self, from: Inlet, buf: &mut [u8]) -> Result<usize, Failed> {
+    fn read(&mut self, from: Inlet, buf: &mut [u8]) -> Result<usize, Failed>
+        ensures within { IfOk result (λ k. k ≤ length buf.old) }
+        ensures faults { read_faults_of self.new ≡ faults_after (is_err result) (read_faults_of self.old) }
+        ensures cause { Cause (IsErr result) (read_faults_of self.old) (read_faults_of self.new) }
+        ensures same { write_faults_of self.new ≡ write_faults_of self.old }
+    {
         let outcome = match from {
             Inlet::Instance => read_some(&mut self.instance, buf),
             Inlet::Proof => read_some(&mut self.proof_in, buf),
@@ -89,7 +109,13 @@ impl<R: Files + Print + Drop> Desk for FileDesk<R> {
         outcome
     }
 
-    fn write(&mut self, to: Outlet, piece: &[u8]) -> Result<usize, Failed> {
+    fn write(&mut self, to: Outlet, piece: &[u8]) -> Result<usize, Failed>
+        ensures within { IfOk result (λ k. k ≤ length piece.now) }
+        ensures some { IfOk result (λ k. 0 < length piece.now → 0 < k) }
+        ensures faults { write_faults_of self.new ≡ faults_after (is_err result) (write_faults_of self.old) }
+        ensures cause { Cause (IsErr result) (write_faults_of self.old) (write_faults_of self.new) }
+        ensures same { read_faults_of self.new ≡ read_faults_of self.old }
+    {
         let outcome = match to {
             Outlet::Text => print_some(&self.rt, piece),
             Outlet::Proof => write_some(&mut self.proof_out, piece),

@@ -1,5 +1,7 @@
 //! The real slots: two files.
-ghost use Rattle.std.specs.Prelude.{◌≡◌, ℕ, None, IfOk};
+ghost use Rattle.std.specs.Prelude.{◌≡◌, ℕ, ◌-◌, ◌<◌, ◌≤◌, ◌↔◌, ◌⊎◌, length, is_err, IsErr, None, IfOk};
+ghost use Rattle.ports.specs.Calls.{faults_after};
+ghost use Rattle.ports.specs.Outside.{Cause};
 
 use crate::files::count_fault;
 use crate::slot_file::{MOST_PATH, SlotFile, read_at, sync, write_at};
@@ -22,9 +24,11 @@ pub struct FileSlots<R: Files + Drop> {
 }
 
 impl<R: Files + Drop> FileSlots<R> {
+    ghost use Rattle.ports.specs.FileSlots.{faults_of};
+
     /// Nothing is bound, and nothing has failed. The room for paths is taken here.
     pub fn new(alloc: Global, rt: R) -> Result<FileSlots<R>, AllocError>
-        ensures { IfOk result (λ slots. ⟦<FileSlots<R> as Slots>⟧.faults slots ≡ 0) }
+        ensures { IfOk result (λ slots. faults_of slots ≡ 0) }
     {
         Ok(FileSlots {
             slot0: SlotFile::new(alloc)?,
@@ -36,18 +40,24 @@ impl<R: Files + Drop> FileSlots<R> {
 
     /// How often a call has failed.
     pub fn faults(&self) -> u64
-        ensures { result ≡ ⟦<FileSlots<R> as Slots>⟧.faults self.now }
+        ensures { result ≡ faults_of self.now }
     {
         self.faults
     }
 }
 
 impl<R: Files + Drop> Slots for FileSlots<R> {
+    ghost use Rattle.ports.specs.FileSlots.{faults_of};
+
     ghost told = { λ _. None };
 
-    ghost faults = { λ slots. slots.faults };
+    ghost faults = { faults_of };
 
-    fn bind(&mut self, path: &str) -> Result<(), Failed> {
+    fn bind(&mut self, path: &str) -> Result<(), Failed>
+        ensures fails { IsErr result ↔ ((length path.now ≡ 0) ⊎ (MOST_PATH - 2 < length path.now)) }
+        ensures faults { faults_of self.new ≡ faults_after (is_err result) (faults_of self.old) }
+        ensures cause { Cause (IsErr result) (faults_of self.old) (faults_of self.new) }
+    {
         if path.is_empty() || path.len() > MOST_PATH - 2 {
             count_fault(&mut self.faults, true);
             return Err(Failed);
@@ -57,7 +67,12 @@ impl<R: Files + Drop> Slots for FileSlots<R> {
         Ok(())
     }
 
-    fn read_at(&mut self, slot: u8, pos: u64, buf: &mut [u8]) -> Result<usize, Failed> {
+    fn read_at(&mut self, slot: u8, pos: u64, buf: &mut [u8]) -> Result<usize, Failed>
+        requires { slot < 2 }
+        ensures within { IfOk result (λ k. k ≤ length buf.old) }
+        ensures faults { faults_of self.new ≡ faults_after (is_err result) (faults_of self.old) }
+        ensures cause { Cause (IsErr result) (faults_of self.old) (faults_of self.new) }
+    {
         let outcome = if slot == 0 {
             read_at(&self.rt, &mut self.slot0, pos, buf)
         } else {
@@ -67,7 +82,11 @@ impl<R: Files + Drop> Slots for FileSlots<R> {
         outcome
     }
 
-    fn write_at(&mut self, slot: u8, pos: u64, bytes: &[u8]) -> Result<(), Failed> {
+    fn write_at(&mut self, slot: u8, pos: u64, bytes: &[u8]) -> Result<(), Failed>
+        requires { slot < 2 }
+        ensures faults { faults_of self.new ≡ faults_after (is_err result) (faults_of self.old) }
+        ensures cause { Cause (IsErr result) (faults_of self.old) (faults_of self.new) }
+    {
         let outcome = if slot == 0 {
             write_at(&self.rt, &mut self.slot0, pos, bytes)
         } else {
@@ -77,7 +96,11 @@ impl<R: Files + Drop> Slots for FileSlots<R> {
         outcome
     }
 
-    fn sync(&mut self, slot: u8) -> Result<(), Failed> {
+    fn sync(&mut self, slot: u8) -> Result<(), Failed>
+        requires { slot < 2 }
+        ensures faults { faults_of self.new ≡ faults_after (is_err result) (faults_of self.old) }
+        ensures cause { Cause (IsErr result) (faults_of self.old) (faults_of self.new) }
+    {
         let outcome = if slot == 0 {
             sync(&self.rt, &mut self.slot0)
         } else {

@@ -28,3 +28,6 @@ pub use record::{SlotCall, SlotEntry};
 pub use room::Room;
 pub use slots::Slots;
 pub use transfer::{ReadError, read_to_end, write_all};
+
+#[cfg(test)]
+mod tests;
