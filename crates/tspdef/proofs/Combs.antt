@@ -115,9 +115,9 @@ leaves_at (c ∷ cs) s h = ⊎_elim
 one_tooth : (n : ℕ) (tour h t : List ℕ) (z : ℕ) → IsTour n tour → IsTooth n h t → has tour z ≡ true → has t z ≡ false
     → 3 ≤ crossings (has t) (steps tour) + inners (has t) (has h) (steps tour)
 one_tooth n tour h t z is k iz tz =
-    let x = meet_at t h k.1.0 in
-    let y = leaves_at t h k.1.1 in
-    let inside = λ (c : ℕ) (i : has t c ≡ true). tour_has n tour is c (within_rising 0 t n c k.0 i) in
+    let x = meet_at t h k.inside in
+    let y = leaves_at t h k.outside in
+    let inside = λ (c : ℕ) (i : has t c ≡ true). tour_has n tour is c (within_rising 0 t n c k.set i) in
     tooth (has t) (has h) tour x.0 y.0 z (inside x.0 x.1.0) (inside y.0 y.1.0) iz x.1.0 x.1.1 y.1.0 y.1.1 tz
 
 -- teeth that do not hold z
@@ -139,18 +139,19 @@ at_least_threes : (n : ℕ) (tour h : List ℕ) (ts : List (List ℕ)) → IsTou
 at_least_threes n tour h [] is al d l = absurd (omega arith)
 at_least_threes n tour h (t ∷ []) is al d l = absurd (omega arith)
 at_least_threes n tour h (t ∷ s ∷ ss) is al d l =
-    let x = meet_at t h al.0.1.0 in
-    let y = meet_at s h al.1.0.1.0 in
-    let ix = tour_has n tour is x.0 (within_rising 0 t n x.0 al.0.0 x.1.0) in
-    let iy = tour_has n tour is y.0 (within_rising 0 s n y.0 al.1.0.0 y.1.0) in
+    let x = meet_at t h al.0.inside in
+    let y = meet_at s h al.1.0.inside in
+    let ix = tour_has n tour is x.0 (within_rising 0 t n x.0 al.0.set x.1.0) in
+    let iy = tour_has n tour is y.0 (within_rising 0 s n y.0 al.1.0.set y.1.0) in
     let rest = threes n tour h x.0 (s ∷ ss) is al.1 ix (unheld t (s ∷ ss) x.0 d.0 x.1.0) in
     let apart : has t y.0 ≡ false = elim (has t y.0) as (λ b. has t y.0 ≡ b → has t y.0 ≡ false) [ true ↦ λ e. let u = unheld t (s ∷ ss) y.0 d.0 e in let p = (or_parts (has s y.0) (held ss y.0) u).0 in let q = y.1.0 in cc | false ↦ λ e. e ] refl in
     let first = one_tooth n tour h t y.0 is al.0 iy apart in
     omega arith
 
-pub comb_law : CombLaw
+pub comb_law : (n : ℕ) (tour handle : List ℕ) (teeth : List (List ℕ)) → IsTour n tour → IsComb n handle teeth
+    → 3 * length teeth + 1 ≤ crossings (has handle) (steps tour) + crossings_of_all teeth (steps tour)
 comb_law n tour h ts is k =
-    let three = at_least_threes n tour h ts is k.teeth_in k.disjoint k.many in
+    let three = at_least_threes n tour h ts is k.each_tooth k.disjoint k.many in
     let within = inners_within ts (has h) (steps tour) k.disjoint in
     let even = tour_parity (has h) tour in
     let evens = all_even tour ts in

@@ -88,10 +88,11 @@ first_in : (s : List ℕ) → 0 < length s → (x : ℕ) × (has s x ≡ true)
 first_in [] l = absurd (omega arith)
 first_in (c ∷ cs) l = (c, or_left _ _ (eq-eqb c c refl))
 
-pub subtour_law : SubtourLaw
+pub subtour_law : (n : ℕ) (tour s : List ℕ) → IsTour n tour → IsProper n s
+    → (crossings (has s) (steps tour) % 2 ≡ 0) × (2 ≤ crossings (has s) (steps tour))
 subtour_law n tour s t p =
-    let x = first_in s p.1.0 in
-    let y = lacking 0 s n p.0 (let l = p.1.1 in omega arith) in (
+    let x = first_in s p.some in
+    let y = lacking 0 s n p.set (let l = p.not_all in omega arith) in (
       tour_parity (has s) tour,
-      tour_crosses (has s) tour x.0 y.0 (tour_has n tour t x.0 (within_rising 0 s n x.0 p.0 x.1)) (tour_has n tour t y.0 y.1.1.0) x.1 y.1.1.1,
+      tour_crosses (has s) tour x.0 y.0 (tour_has n tour t x.0 (within_rising 0 s n x.0 p.set x.1)) (tour_has n tour t y.0 y.1.1.0) x.1 y.1.1.1,
     )

@@ -1,6 +1,6 @@
 -- The lower bound of a closing: weak duality of the degree, cut and clique rows in whole numbers
 -- (Dantzig, Fulkerson and Johnson 1954; Applegate, Bixby, Chvátal and Cook), summed over all pairs.
-use Rattle.std.specs.Prelude.{ℕ, ◌+◌, ◌*◌, ◌^◌, Bool, cond, List, [], ◌∷◌, ℤ, pos, ◌+ℤ◌, ◌-ℤ◌, Option, Some, None, slice_index_or}
+use Rattle.std.specs.Prelude.{ℕ, ◌*◌, ◌^◌, cond, List, [], ◌∷◌, ℤ, pos, ◌+ℤ◌, ◌-ℤ◌, Option, Some, None, slice_index_or}
 use Rattle.std.specs.Int.{int_min}
 use Rattle.tspdef.specs.Sums.{sum_below, sum_pairs}
 use Rattle.tspdef.specs.Instances.{Instance, dist}

@@ -1,8 +1,8 @@
 -- The laws that everything rests on.
-use Rattle.std.specs.Prelude.{◌≡◌, ℕ, ◌+◌, ◌*◌, ◌%◌, ◌^◌, ◌<◌, ◌≤◌, Bool, false, List, [], ◌∷◌, pos, ◌≤ℤ◌, ◌<ℤ◌, Some, None, ◌==◌, cond}
+use Rattle.std.specs.Prelude.{◌≡◌, ℕ, ◌*◌, ◌%◌, ◌^◌, ◌<◌, ◌≤◌, Bool, false, List, pos, ◌≤ℤ◌, ◌<ℤ◌, Some}
 use Rattle.tspdef.specs.Distances.{Rule, is_enough, root as root_of, IsLeast}
 use Rattle.tspdef.specs.Sets.{has, IsProper}
-use Rattle.tspdef.specs.Tours.{steps, crossings, IsTour, IsSameCycle, IsCanonicalForm, has_step}
+use Rattle.tspdef.specs.Tours.{steps, crossings, IsSameCycle, IsCanonicalForm, has_step}
 use Rattle.tspdef.specs.Instances.{Instance, IsTourOf, length_in}
 use Rattle.tspdef.specs.Cuts.{Cut, IsCut, HoldsOf}
 use Rattle.tspdef.specs.Paths.{Condition, Meets, Obeys, is_decided, IsPair, DecidesAll, root}

@@ -1,6 +1,6 @@
 -- Rays: the closings of a node whose path decides every pair. Where the used pairs are no tour, one dual is as
 -- large as it takes; where they are a tour, no dual is needed.
-use Rattle.std.specs.Prelude.{◌≡◌, ℕ, ◌+◌, ◌*◌, ◌<◌, ◌≤◌, Bool, true, cond, ◌==◌, ◌&&◌, ◌||◌, ◌⊎◌, List, [], ◌∷◌, length, replicate, slice_set, ℤ, pos, neg_ℤ, ◌≤ℤ◌}
+use Rattle.std.specs.Prelude.{◌≡◌, ℕ, ◌+◌, ◌*◌, ◌<◌, true, cond, ◌==◌, ◌&&◌, ◌||◌, ◌⊎◌, List, [], ◌∷◌, length, replicate, slice_set, ℤ, pos, neg_ℤ, ◌≤ℤ◌}
 use Rattle.tspdef.specs.Sets.{has, IsSet}
 use Rattle.tspdef.specs.Tours.{steps, has_step, IsTour}
 use Rattle.tspdef.specs.Cuts.{subtour}

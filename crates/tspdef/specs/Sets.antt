@@ -1,5 +1,5 @@
 -- Sets of cities, as strictly rising lists below the number of cities n.
-use Rattle.std.specs.Prelude.{◌≡◌, ℕ, ◌+◌, ◌<◌, ◌≤◌, Bool, true, false, ◌==◌, ◌||◌, not, List, [], ◌∷◌, length}
+use Rattle.std.specs.Prelude.{◌≡◌, ℕ, ◌+◌, ◌<◌, ◌≤◌, Bool, false, ◌==◌, ◌||◌, not, List, [], ◌∷◌, length}
 
 -- a is one of xs
 abbrev pub has : List ℕ → ℕ → Bool

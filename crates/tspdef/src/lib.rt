@@ -8,33 +8,28 @@ ghost use Rattle.tspdef.specs.Laws.{RootsAreLeast, CrossingsAreEven, ToursMeetCu
 /// A distance is the least whole number that its rule takes for the squared distance.
 pub fn roots_are_least()
     ensures { RootsAreLeast }
-{
-}
+{}
 
 /// Every tour crosses a proper set an even number of times, and at least twice (Dantzig, Fulkerson and Johnson).
 pub fn crossings_are_even()
     ensures { CrossingsAreEven }
-{
-}
+{}
 
 /// Every tour meets every subtour cut and every comb (Grötschel and Padberg).
 pub fn tours_meet_cuts()
     ensures { ToursMeetCuts }
-{
-}
+{}
 
 /// Weak duality: no tour that obeys a path is shorter than the bound of a closing there.
 pub fn bound_is_below()
     ensures bound { BoundIsBelow }
     ensures fitting { FittingIsClosing }
-{
-}
+{}
 
 /// Where a proof is accepted, no tour is shorter than its tour, whoever wrote the proof.
 pub fn accepted_is_optimal()
     ensures { AcceptedIsOptimal }
-{
-}
+{}
 
 /// A tree keeps covering every tour as it grows by splits and closings, and in the end makes a length a lower bound.
 pub fn trees_cover()
@@ -43,19 +38,16 @@ pub fn trees_cover()
     ensures clique_split { CliqueSplitCovers }
     ensures closing { ClosingCovers }
     ensures least { CoveredIsLeast }
-{
-}
+{}
 
 /// Where every pair is decided the ray closes the node: too few used pairs at a city, too many, several cycles, or a tour.
 pub fn rays_close()
     ensures { RaysClose }
-{
-}
+{}
 
 /// A tour does not depend on where its list starts nor on its direction, and has exactly one canonical form.
 pub fn tours_are_cycles()
     ensures same { SameCycleIsSameTour }
     ensures exists { CanonicalFormExists }
     ensures one { CanonicalFormIsOne }
-{
-}
+{}
