@@ -38,16 +38,17 @@ distinct_push (x ∷ xs) y d h =
     let turned : eqb y x ≡ false = ne_eqb y x (λ e. let f = eq-eqb x y (sym e) in let g = none.0 in cc) in
     (has-push xs y x ∙ or_from _ _ turned d.0, distinct_push xs y d.1 none.1)
 
+-- a list has each of its cities
+pub has_at : (xs : List ℕ) (i d : ℕ) → i < length xs → has xs (get_or xs i d) ≡ true
+has_at [] i d h = absurd (omega arith)
+has_at (x ∷ xs) zero d h = or_left _ _ (eq-eqb x x refl)
+has_at (x ∷ xs) (suc i) d h = or_right _ _ (has_at xs i d (omega arith))
+
 -- a list of different cities has none before its place
 pub distinct_at : (xs : List ℕ) (i d : ℕ) → AreDistinct xs → i < length xs → has (take i xs) (get_or xs i d) ≡ false
 distinct_at [] i d a h = absurd (omega arith)
 distinct_at (x ∷ xs) zero d a h = refl
 distinct_at (x ∷ xs) (suc i) d a h = or_from _ _ (ne_eqb _ _ (λ e. let f : has xs x ≡ true = subst (λ k. has xs k ≡ true) (sym e) (has_at xs i d (omega arith)) in let g = a.0 in cc)) (distinct_at xs i d a.1 (omega arith))
-  where
-    has_at : (xs : List ℕ) (i d : ℕ) → i < length xs → has xs (get_or xs i d) ≡ true
-    has_at [] i d h = absurd (omega arith)
-    has_at (x ∷ xs) zero d h = or_left _ _ (eq-eqb x x refl)
-    has_at (x ∷ xs) (suc i) d h = or_right _ _ (has_at xs i d (omega arith))
 
 pub below_at : (n : ℕ) (xs : List ℕ) (i d : ℕ) → AllByRecursion (λ c. c < n) xs → i < length xs → get_or xs i d < n
 below_at n [] i d a h = absurd (omega arith)

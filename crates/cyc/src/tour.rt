@@ -1,9 +1,9 @@
 //! Tours.
-ghost use Rattle.std.specs.Prelude.{◌≡◌, ◌<◌, ◌≤◌, ◌↔◌, true, ◌++◌, length, slice_index, take, drop, reverse, IfOk, IsErrOf, IsTrue};
+ghost use Rattle.std.specs.Prelude.{◌≡◌, ◌-◌, ◌<◌, ◌≤◌, ◌↔◌, true, nat_lt, if◌then◌else◌, ◌++◌, length, vec_len, slice_index, take, drop, reverse, IfOk, IsErrOf, IsTrue};
 ghost use Rattle.std.specs.List.{range_with_len};
 ghost use Rattle.tspdef.specs.Sets.{has};
 ghost use Rattle.tspdef.specs.Tours.{IsTour, steps, crossings, IsCanonicalForm};
-ghost use Rattle.cyc.specs.Tour.{AreApart};
+ghost use Rattle.cyc.specs.Tour.{AreApart, IsWhole};
 
 use crate::city_set::CitySet;
 use crate::marks::Marks;
@@ -48,7 +48,6 @@ impl Model for Tour {
 }
 
 impl Tour {
-    ghost use Rattle.cyc.specs.Tour.{IsWhole};
 
     /// The tour 0, 1, .. n - 1.
     pub fn identity(alloc: Global, n: u32) -> Result<Tour, AllocError>
@@ -57,7 +56,7 @@ impl Tour {
         ensures { IfOk result (λ tour. tour ≡ range_with_len 0 n) }
     {
         Ok(Tour {
-            cities: (0..n).collect(alloc)?,
+            cities: numbers(alloc, n)?,
         })
     }
 
@@ -96,29 +95,16 @@ impl Tour {
         requires { set.now.n ≡ length self.now }
         ensures { result ≡ crossings (has set.now.cities) (steps self.now) }
     {
-        let home = set.contains(self.cities[0]);
-        let mut inside = home;
-        let mut count = 0;
-        for city in &self.cities {
-            let enters = set.contains(*city);
-            if enters != inside {
-                count += 1;
-            }
-            inside = enters;
-        }
-        if inside != home { count + 1 } else { count }
+        count_crossings(&self.cities, set)
     }
 
     /// The same cycle in its canonical form: city 0 comes first, and the second city is less than the last.
     pub fn canonical(&self, alloc: Global) -> Result<Tour, AllocError>
         ensures { IfOk result (λ form. IsCanonicalForm self.now form) }
     {
-        let home = place_of_home(&self.cities);
-        let mut cities = turned(alloc, &self.cities, home)?;
-        if cities[1] > cities[cities.len() - 1] {
-            reverse_behind_first(&mut cities);
-        }
-        Ok(Tour { cities })
+        Ok(Tour {
+            cities: canonical_form(alloc, &self.cities)?,
+        })
     }
 
     /// An equal tour.
@@ -143,6 +129,42 @@ fn are_apart(alloc: Global, n: u32, cities: &[u32]) -> Result<bool, AllocError>
         seen.mark(*city);
     }
     Ok(true)
+}
+
+/// The numbers below `n`, in order.
+fn numbers(alloc: Global, n: u32) -> Result<Vec<u32>, AllocError>
+    ensures { IfOk result (λ v. v.items ≡ range_with_len 0 n) }
+{
+    (0..n).collect(alloc)
+}
+
+/// How many steps of a tour have exactly one end in the set.
+fn count_crossings(cities: &[u32], set: &CitySet) -> u32
+    requires some { 0 < length cities.now }
+    requires few { length cities.now ≤ 2000 }
+    ensures { result ≡ crossings (has set.now.cities) (steps cities.now) }
+{
+    let home = set.contains(cities[0]);
+    let mut inside = home;
+    let mut count = 0;
+    for city in cities {
+        let enters = set.contains(*city);
+        if enters != inside {
+            count += 1;
+        }
+        inside = enters;
+    }
+    if inside != home { count + 1 } else { count }
+}
+
+/// The canonical form of a tour.
+fn canonical_form(alloc: Global, cities: &[u32]) -> Result<Vec<u32>, AllocError>
+    requires { IsWhole cities.now }
+    ensures { IfOk result (λ form. IsCanonicalForm cities.now form.items) }
+{
+    let home = place_of_home(cities);
+    let form = turned(alloc, cities, home)?;
+    Ok(rising(form))
 }
 
 /// Where city 0 stands.
@@ -170,10 +192,14 @@ fn turned(alloc: Global, cities: &[u32], place: usize) -> Result<Vec<u32>, Alloc
     Ok(turned)
 }
 
-/// Turns all cities but the first the other way round.
-fn reverse_behind_first(cities: &mut [u32])
-    requires { 0 < length cities.old }
-    ensures { cities.new ≡ take 1 cities.old ++ reverse (drop 1 cities.old) }
+/// The same cycle from the same city on, in the direction in which the second city is less than the last.
+fn rising(mut form: Vec<u32>) -> Vec<u32>
+    requires { 2 ≤ vec_len form }
+    ensures { result.items ≡ (if nat_lt (slice_index form.items (vec_len form - 1)) (slice_index form.items 1)
+        then take 1 form.items ++ reverse (drop 1 form.items) else form.items) }
 {
-    cities[1..].reverse();
+    if form[form.len() - 1] < form[1] {
+        form[1..].reverse();
+    }
+    form
 }
