@@ -1,8 +1,8 @@
 -- Entries, the pairs that they are of, and their table.
-use Rattle.std.proofs.Common.{◌≡◌, ℕ, zero, suc, ◌+◌, ◌-◌, ◌*◌, ◌^◌, ◌<◌, ◌≤◌, min, max, Bool, true, false, cond, eqb, ltb, ◌&&◌, ◌||◌, List, [], ◌∷◌, ◌++◌, length, get_or, take, set, replicate, refl, sym, ap, ◌∙◌, subst, arith, inl, inr, ⊎_elim, ◌⊎◌}
+use Rattle.std.proofs.Common.{◌≡◌, ℕ, zero, suc, ◌+◌, ◌-◌, ◌*◌, ◌^◌, ◌<◌, ◌≤◌, min, max, Bool, true, false, cond, eqb, ◌&&◌, ◌||◌, List, [], ◌∷◌, ◌++◌, length, get_or, take, set, replicate, refl, sym, ap, ◌∙◌, arith, ⊎_elim}
 use Rattle.std.specs.Prelude.{count_by, nat_lt}
 use Rattle.std.specs.List.{AllByRecursion}
-use Rattle.std.proofs.lemmas.Bool.{cases_Bool, cases_lt, cases_eq, or_cases, or_parts, or_from, or_left, or_right, eq-eqb, eqb-true, lt-ltb, false_from_ne_true, false≢true, cond-false}
+use Rattle.std.proofs.lemmas.Bool.{cases_Bool, cases_lt, cases_eq, or_parts, or_from, or_left, or_right, lt-ltb, false_from_ne_true, false≢true, cond-false}
 use Rattle.std.proofs.lemmas.Bool.Decides.{nat_tests}
 use Rattle.std.proofs.lemmas.List.{get_or-set_same, get_or-set_other, get_or-replicate, length-set, length-replicate, get_or_read}
 use Rattle.std.proofs.lemmas.List.Sums.{sum_by-set, count_by-le-length}
@@ -196,8 +196,8 @@ module _ (n : ℕ) (es : List Entry) (e : Entry) (table : List ℕ) where
   pub table_push : IsTableOf n es table → IsEntry n e → is_listed es e.u e.v ≡ false → IsTableOf n (es ++ e ∷ []) after
   table_push t h fresh =
       let within : min e.u e.v * n + max e.u e.v < length table = (
-        let p = mul-add-lt (min e.u e.v) n (max e.u e.v) n (let q = h.u_below in let r = h.v_below in omega arith) (let q = h.u_below in let r = h.v_below in omega arith) in
-        let s = t.size in omega arith
+      let p = mul-add-lt (min e.u e.v) n (max e.u e.v) n (let q = h.u_below in let r = h.v_below in omega arith) (let q = h.u_below in let r = h.v_below in omega arith) in
+      let s = t.size in omega arith
       ) in
       record {
         size = length-set table (min e.u e.v * n + max e.u e.v) (e.x + 1) ∙ t.size;

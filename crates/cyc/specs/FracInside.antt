@@ -1,5 +1,5 @@
 -- The fields of values on pairs: the entries, and their table.
-use Rattle.std.specs.Prelude.{ℕ, ◌≤◌}
+use Rattle.std.specs.Prelude.{◌≤◌}
 use Rattle.cyc.specs.Frac.{Values, AreEntries}
 use Rattle.cyc.specs.Table.{IsTableOf}
 use Rattle.cyc.specs.declared.frac.Frac.TheInside.{Inside}

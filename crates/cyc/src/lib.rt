@@ -10,3 +10,6 @@ mod tour;
 pub use city_set::{CitySet, CitySetError};
 pub use frac::{Entry, Frac, FracError};
 pub use tour::{Tour, TourError};
+
+#[cfg(test)]
+mod tests;

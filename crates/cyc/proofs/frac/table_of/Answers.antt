@@ -1,9 +1,9 @@
-use Rattle.std.proofs.Common.{◌≡◌, ℕ, ◌+◌, ◌*◌, ◌<◌, min, max, true, false, List, length, get_or, take, set, ap, sym, subst, ◌∙◌, arith}
+use Rattle.std.proofs.Common.{◌≡◌, ◌+◌, ◌<◌, false, length, get_or, take, ap, sym, subst, ◌∙◌, arith}
 use Rattle.std.proofs.lemmas.List.{take_more, get_or_read}
 use Rattle.cyc.specs.declared.frac.Entry.{Entry}
 use Rattle.cyc.specs.Frac.{is_listed, IsEntry, AreEntries, IsFirstBad}
-use Rattle.cyc.specs.Table.{mark_of, IsTableOf}
-use Rattle.cyc.proofs.EntryLemmas.{entries_push, entries_last, entries_take, mark_read, mark_unlisted, unlisted_from_mark, table_push, marked, marked_more}
+use Rattle.cyc.specs.Table.{mark_of}
+use Rattle.cyc.proofs.EntryLemmas.{entries_push, entries_last, entries_take, mark_read, mark_unlisted, unlisted_from_mark, table_push, marked_more}
 use Rattle.cyc.proofs.frac.table_of.Goals as goal
 use Rattle.cyc.proofs.frac.table_of.Goals.{After-index}
 
