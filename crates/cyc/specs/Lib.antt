@@ -5,3 +5,4 @@ pub mod Inside
 pub mod Frac
 pub mod Table
 pub mod FracInside
+pub mod Laws

@@ -1,6 +1,7 @@
 //! Values on pairs of cities.
 ghost use Rattle.std.specs.Prelude.{◌≡◌, ◌≢◌, ℕ, ◌+◌, ◌*◌, ◌^◌, ◌<◌, ◌≤◌, ◌↔◌, min, max, IfOk, IsErrOf, IsOkUnless, IsTrue};
 ghost use Rattle.cyc.specs.Frac.{IsEntry, AreEntries, IsFirstBad, value_of};
+ghost use Rattle.cyc.specs.Laws.{SumsGoByEntries};
 ghost use Rattle.cyc.specs.Table.{IsTableOf};
 
 use std::alloc::{AllocError, Global};
@@ -97,6 +98,12 @@ impl Frac {
         self.table[cell_of(self.n, u, v)].saturating_sub(1)
     }
 }
+
+/// A sum over all pairs of cities, of their values times weights, is that over the entries alone.
+#[tactic(auto, using(crate::proofs::EntrySums::sums_by_entries))]
+pub fn sums_go_by_entries()
+    ensures { SumsGoByEntries }
+{}
 
 /// Where the table has a pair.
 #[inline]
