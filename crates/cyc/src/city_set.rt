@@ -64,7 +64,7 @@ impl CitySet {
 
     /// How many cities there are in all.
     pub fn n(&self) -> u32
-        ensures same { result ≡ self.now.n }
+        ensures value { result ≡ self.now.n }
         ensures many { 3 ≤ result }
         ensures few { result ≤ 2000 }
     {

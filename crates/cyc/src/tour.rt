@@ -74,7 +74,7 @@ impl Tour {
 
     /// How many cities there are.
     pub fn n(&self) -> u32
-        ensures same { result ≡ length self.now }
+        ensures value { result ≡ length self.now }
         ensures many { 3 ≤ result }
         ensures few { result ≤ 2000 }
     {
