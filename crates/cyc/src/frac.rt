@@ -5,10 +5,12 @@ ghost use Rattle.cyc.specs.Laws.{SumsGoByEntries};
 ghost use Rattle.cyc.specs.Table.{IsTableOf};
 
 use std::alloc::{AllocError, Global};
+use std::error::Error;
+use std::fmt;
 use std::marker::Model;
 
 /// The value of the pair of two cities, named in either order.
-#[derive(Clone, Copy, Debug, PartialEq, Eq, Drop)]
+#[derive(Clone, Copy, Debug, PartialEq, Eq)]
 pub struct Entry {
     pub u: u32,
     pub v: u32,
@@ -17,13 +19,24 @@ pub struct Entry {
 }
 
 /// Why some entries are no values on pairs.
-#[derive(Clone, Copy, Debug, PartialEq, Eq, Drop)]
+#[derive(Clone, Copy, Debug, PartialEq, Eq)]
 pub enum FracError {
     /// The first entry, by its place, that is of no pair, of a pair that an entry before it has, or of a value above 2^30.
     BadEntry(u32),
     /// There is no memory.
     NoMemory,
 }
+
+impl fmt::Display for FracError {
+    fn fmt<W: fmt::Write>(&self, f: &mut fmt::Formatter<W>) -> fmt::Result {
+        match self {
+            FracError::BadEntry(place) => write!(f, "entry {place} is bad"),
+            FracError::NoMemory => write!(f, "out of memory"),
+        }
+    }
+}
+
+impl Error for FracError {}
 
 impl From<AllocError> for FracError {
     ghost use Rattle.std.specs.Prelude.{◌≡◌};
