@@ -12,12 +12,7 @@ use Rattle.tspdef.proofs.Steps.{joins_is}
 use Rattle.cyc.specs.declared.frac.Entry.{Entry}
 use Rattle.cyc.specs.Frac.{value_of, is_listed, IsEntry, ArePairsDistinct, AreEntries}
 use Rattle.cyc.specs.Table.{mark_of, IsTableOf}
-
-or_comm : (x y : Bool) → x || y ≡ y || x
-or_comm true true = refl
-or_comm true false = refl
-or_comm false true = refl
-or_comm false false = refl
+use Rattle.cyc.proofs.ListLemmas.{or_comm}
 
 -- ---- pairs in either order
 

@@ -53,7 +53,7 @@ impl Model for CitySet {
 
     ghost Value = { Members };
 
-    ghost use Rattle.cyc.specs.Inside.{members_of, IsMarked};
+    ghost use Rattle.cyc.specs.CitySetInside.{members_of, IsMarked};
 
     ghost view = { members_of };
 
