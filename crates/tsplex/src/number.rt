@@ -175,3 +175,54 @@ pub fn natural(token: &[u8], most: u32) -> Option<u32>
 pub fn plain_numbers_are_read()
     ensures { PlainNumbersAreRead }
 {}
+
+#[cfg(test)]
+mod tests {
+    use super::*;
+
+    const COORDINATE: u32 = 0x100_0000;
+
+    #[test]
+    fn numbers_are_worth_what_they_spell(rt: HostRuntime) {
+        let rows: [(&[u8], Result<i64, NumberFault>); 17] = [
+            (b"565.0", Ok(565)),
+            (b"1.5e2", Ok(150)),
+            (b"-0", Ok(0)),
+            (b"0e999", Ok(0)),
+            (b"10e-1", Ok(1)),
+            (b".5", Err(NumberFault::Fractional)),
+            (b"1e9", Err(NumberFault::OutOfRange)),
+            (b"1x", Err(NumberFault::NotANumber)),
+            (b".", Err(NumberFault::NotANumber)),
+            (b"-16777216", Ok(-16_777_216)),
+            (b"16777217", Err(NumberFault::OutOfRange)),
+            (b"+000000000000000000000000000012.50E+1", Ok(125)),
+            (b"1234500000000000000000000000000e-26", Ok(12_345)),
+            (
+                b"0.000000000000000000000000000001e99999999999999999999999",
+                Err(NumberFault::OutOfRange),
+            ),
+            (b"1e-18446744073709551617", Err(NumberFault::Fractional)),
+            (b"1e", Err(NumberFault::NotANumber)),
+            (b"1.2.3", Err(NumberFault::NotANumber)),
+        ];
+        for (token, want) in rows {
+            assert_eq!(rt; whole(token, COORDINATE), want, "{token:?}");
+        }
+    }
+
+    #[test]
+    fn naturals_are_digits_alone(rt: HostRuntime) {
+        let rows: [(&[u8], Option<u32>); 6] = [
+            (b"0004", Some(4)),
+            (b"2000", Some(2000)),
+            (b"2001", None),
+            (b"+4", None),
+            (b"4.0", None),
+            (b"", None),
+        ];
+        for (token, want) in rows {
+            assert_eq!(rt; natural(token, 2000), want, "{token:?}");
+        }
+    }
+}

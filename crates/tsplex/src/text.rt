@@ -202,3 +202,31 @@ impl<'a> Lexer<'a> {
         word
     }
 }
+
+#[cfg(test)]
+mod tests {
+    use super::*;
+
+    #[test]
+    fn words_are_read_line_by_line(rt: HostRuntime) {
+        let mut lexer = Lexer::new(b" TYPE : TSP\r\n\n\t1 2\xff\n 3\t\n");
+        assert_eq!(rt; lexer.token(), Some((1, b"TYPE".as_slice())));
+        assert_eq!(rt; lexer.word(), b":".as_slice());
+        assert_eq!(rt; lexer.word(), b"TSP".as_slice());
+        assert_eq!(rt; lexer.word(), b"".as_slice());
+        assert_eq!(rt; lexer.token(), Some((3, b"1".as_slice())));
+        assert_eq!(rt; lexer.line(), Some((3, b" 2\xff".as_slice())));
+        assert_eq!(rt; lexer.token(), Some((4, b"3".as_slice())));
+        assert_eq!(rt; lexer.token(), None);
+        assert_eq!(rt; lexer.line(), None);
+    }
+
+    #[test]
+    fn lines_end_at_a_line_feed(rt: HostRuntime) {
+        let mut lexer = Lexer::new(b"a b\r\n\nc");
+        assert_eq!(rt; lexer.line(), Some((1, b"a b\r".as_slice())));
+        assert_eq!(rt; lexer.line(), Some((2, b"".as_slice())));
+        assert_eq!(rt; lexer.line(), Some((3, b"c".as_slice())));
+        assert_eq!(rt; lexer.line(), None);
+    }
+}
