@@ -1,0 +1,9 @@
+pub mod SumLemmas
+pub mod Steps
+pub mod CrossingLemmas
+pub mod Combs
+pub mod Duality
+pub mod Covering
+pub mod Roots
+pub mod RayLemmas
+pub mod CycleLemmas

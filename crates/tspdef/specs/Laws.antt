@@ -1,0 +1,92 @@
+-- The laws that everything rests on.
+use Rattle.std.specs.Prelude.{◌≡◌, ℕ, ◌*◌, ◌%◌, ◌^◌, ◌<◌, ◌≤◌, Bool, false, List, pos, ◌≤ℤ◌, ◌<ℤ◌, Some}
+use Rattle.tspdef.specs.Distances.{Rule, is_enough, root as root_of, IsLeast}
+use Rattle.tspdef.specs.Sets.{has, IsProper}
+use Rattle.tspdef.specs.Tours.{steps, crossings, IsSameCycle, IsCanonicalForm, has_step}
+use Rattle.tspdef.specs.Instances.{Instance, IsTourOf, length_in}
+use Rattle.tspdef.specs.Cuts.{Cut, IsCut, HoldsOf}
+use Rattle.tspdef.specs.Paths.{Condition, Meets, Obeys, is_decided, IsPair, DecidesAll, root}
+use Rattle.tspdef.specs.Closings.{Closing, Fits, IsClosing}
+use Rattle.tspdef.specs.Bounds.{scale, bound, needed}
+use Rattle.tspdef.specs.Rays.{IsRay, AreStepsOf}
+use Rattle.tspdef.specs.Trees.{Tree, open_leaf, closed_leaf, edge_split, clique_split, IsAccepted, open_leaves, Covers, Side, open_path, with_leaf}
+
+-- The distance from a squared distance is the least number that is enough for it.
+abbrev pub RootsAreLeast : Type 0
+RootsAreLeast = (rule : Rule) (s : ℕ) → IsLeast (is_enough rule s) (root_of rule s)
+
+-- A tour crosses a proper set an even number of times, and at least twice.
+abbrev pub CrossingsAreEven : Type 0
+CrossingsAreEven = (i : Instance) (tour s : List ℕ) → IsTourOf i tour → IsProper i.n s
+    → (crossings (has s) (steps tour) % 2 ≡ 0) × (2 ≤ crossings (has s) (steps tour))
+
+-- Every tour meets every cut.
+abbrev pub ToursMeetCuts : Type 0
+ToursMeetCuts = (i : Instance) (tour : List ℕ) (c : Cut) → IsTourOf i tour → IsCut i.n c → HoldsOf c tour
+
+-- The bound of a closing is at most the length, in units, of each tour that obeys the path.
+abbrev pub BoundIsBelow : Type 0
+BoundIsBelow = (i : Instance) (path : List Condition) (c : Closing) (tour : List ℕ) → 3 ≤ i.n → IsTourOf i tour
+    → IsClosing i.n path c → Obeys (steps tour) path → bound i path c ≤ℤ pos (scale * length_in i tour)
+
+-- A closing that fits is a closing.
+abbrev pub FittingIsClosing : Type 0
+FittingIsClosing = (n : ℕ) (path : List Condition) (c : Closing) → Fits n path c → IsClosing n path c
+
+-- Where a proof is accepted, no tour is shorter than its tour.
+abbrev pub AcceptedIsOptimal : Type 0
+AcceptedIsOptimal = (i : Instance) (tour other : List ℕ) (l : ℕ) (t : Tree) → 3 ≤ i.n → IsAccepted i tour l t
+    → IsTourOf i other → l ≤ length_in i other
+
+-- The tree of one open leaf covers every tour.
+abbrev pub RootCovers : Type 0
+RootCovers = (i : Instance) (l : ℕ) → Covers i open_leaf l
+
+-- Splitting an open leaf by an undecided pair keeps what the tree covers, for each l.
+abbrev pub EdgeSplitCovers : Type 0
+EdgeSplitCovers = (i : Instance) (t : Tree) (sides : List Side) (path : List Condition) (u v l : ℕ)
+    → open_path (root i) t sides ≡ Some path → IsPair i.n u v → is_decided path u v ≡ false
+    → Covers i t l → Covers i (with_leaf t sides (edge_split u v open_leaf open_leaf)) l
+
+-- So does splitting by a proper set.
+abbrev pub CliqueSplitCovers : Type 0
+CliqueSplitCovers = (i : Instance) (t : Tree) (sides : List Side) (path : List Condition) (s : List ℕ) (l : ℕ)
+    → open_path (root i) t sides ≡ Some path → IsProper i.n s
+    → Covers i t l → Covers i (with_leaf t sides (clique_split s open_leaf open_leaf)) l
+
+-- Closing an open leaf by a closing whose bound exceeds what l needs keeps it for that l.
+abbrev pub ClosingCovers : Type 0
+ClosingCovers = (i : Instance) (t : Tree) (sides : List Side) (path : List Condition) (c : Closing) (l : ℕ) → 3 ≤ i.n
+    → open_path (root i) t sides ≡ Some path → IsClosing i.n path c → needed l <ℤ (bound i path c)
+    → Covers i t l → Covers i (with_leaf t sides (closed_leaf c)) l
+
+-- A tree that covers and has no open leaf makes l a lower bound.
+abbrev pub CoveredIsLeast : Type 0
+CoveredIsLeast = (i : Instance) (t : Tree) (l : ℕ) → open_leaves t ≡ 0 → Covers i t l
+    → (tour : List ℕ) → IsTourOf i tour → l ≤ length_in i tour
+
+-- A ray closes its node: it fits, and its bound exceeds what the best needs, where the path decides every pair and
+-- the best is no longer than the used pairs where they are a tour.
+abbrev pub RaysClose : Type 0
+RaysClose = (i : Instance) (path : List Condition) (best : ℕ) (c : Closing) → 3 ≤ i.n → best < 2 ^ 42 → DecidesAll i.n path
+    → ((tour : List ℕ) → IsTourOf i tour → AreStepsOf i.n path tour → best ≤ length_in i tour)
+    → IsRay i.n path best c → Fits i.n path c × (needed best <ℤ (bound i path c))
+
+-- Where a list of cities starts and in which direction it goes makes no difference to the tour that it is.
+pub record IsSameTour (i : Instance) (tour other : List ℕ) : Type 0 where
+  pub is_tour : IsTourOf i other
+  pub long : length_in i other ≡ length_in i tour
+  pub crossed : (s : ℕ → Bool) → crossings s (steps other) ≡ crossings s (steps tour)
+  pub joined : (u v : ℕ) → has_step (steps other) u v ≡ has_step (steps tour) u v
+  pub meets : (c : Condition) → Meets (steps tour) c → Meets (steps other) c
+
+abbrev pub SameCycleIsSameTour : Type 0
+SameCycleIsSameTour = (i : Instance) (tour other : List ℕ) → IsTourOf i tour → IsSameCycle tour other → IsSameTour i tour other
+
+-- Each tour of three cities or more has a canonical form, and only one.
+abbrev pub CanonicalFormExists : Type 0
+CanonicalFormExists = (i : Instance) (tour : List ℕ) → 3 ≤ i.n → IsTourOf i tour → (form : List ℕ) × IsCanonicalForm tour form
+
+abbrev pub CanonicalFormIsOne : Type 0
+CanonicalFormIsOne = (i : Instance) (tour form other : List ℕ) → 3 ≤ i.n → IsTourOf i tour
+    → IsCanonicalForm tour form → IsCanonicalForm tour other → form ≡ other

@@ -1,0 +1,12 @@
+pub mod Distances
+pub mod Sets
+pub mod Tours
+pub mod Instances
+pub mod Cuts
+pub mod Paths
+pub mod Closings
+pub mod Sums
+pub mod Bounds
+pub mod Rays
+pub mod Trees
+pub mod Laws

@@ -1,0 +1,53 @@
+//! What a reader must believe, and what follows from it: the definitions of `specs/` (distances, tours, cuts,
+//! branching paths, closings, bounds, rays and proof trees of the symmetric travelling salesman problem), and the
+//! laws over them, each the contract of a function here. There is no program code in this crate.
+#![tactic(auto)]
+
+ghost use Rattle.tspdef.specs.Laws.{RootsAreLeast, CrossingsAreEven, ToursMeetCuts, BoundIsBelow, FittingIsClosing, AcceptedIsOptimal, RootCovers, EdgeSplitCovers, CliqueSplitCovers, ClosingCovers, CoveredIsLeast, RaysClose, SameCycleIsSameTour, CanonicalFormExists, CanonicalFormIsOne};
+
+/// A distance is the least whole number that its rule takes for the squared distance.
+pub fn roots_are_least()
+    ensures { RootsAreLeast }
+{}
+
+/// Every tour crosses a proper set an even number of times, and at least twice (Dantzig, Fulkerson and Johnson).
+pub fn crossings_are_even()
+    ensures { CrossingsAreEven }
+{}
+
+/// Every tour meets every subtour cut and every comb (Grötschel and Padberg).
+pub fn tours_meet_cuts()
+    ensures { ToursMeetCuts }
+{}
+
+/// Weak duality: no tour that obeys a path is shorter than the bound of a closing there.
+pub fn bound_is_below()
+    ensures bound { BoundIsBelow }
+    ensures fitting { FittingIsClosing }
+{}
+
+/// Where a proof is accepted, no tour is shorter than its tour, whoever wrote the proof.
+pub fn accepted_is_optimal()
+    ensures { AcceptedIsOptimal }
+{}
+
+/// A tree keeps covering every tour as it grows by splits and closings, and in the end makes a length a lower bound.
+pub fn trees_cover()
+    ensures root { RootCovers }
+    ensures edge_split { EdgeSplitCovers }
+    ensures clique_split { CliqueSplitCovers }
+    ensures closing { ClosingCovers }
+    ensures least { CoveredIsLeast }
+{}
+
+/// Where every pair is decided the ray closes the node: too few used pairs at a city, too many, several cycles, or a tour.
+pub fn rays_close()
+    ensures { RaysClose }
+{}
+
+/// A tour does not depend on where its list starts nor on its direction, and has exactly one canonical form.
+pub fn tours_are_cycles()
+    ensures same { SameCycleIsSameTour }
+    ensures exists { CanonicalFormExists }
+    ensures one { CanonicalFormIsOne }
+{}
