@@ -312,4 +312,8 @@ from_word_none (b ∷ bs) e = absurd (omega arith)
 
 pub ruleset token_steps = (first_line, first_blank, first_word, none_left, from_word_line, from_word_blank, from_word_own, from_word_none)
 
-pub ruleset line_reads = (line_words, line_behind, none_left, empty_text)
+pub behind_nothing : (k : ℕ) (bs : List ℕ) → length bs ≡ 0 → tokens_from k bs ≡ behind_line k (tokens_from k bs)
+unfolding behind_line
+behind_nothing k bs e = rw (none_left k bs e) refl
+
+pub ruleset line_reads = (line_words, line_behind, none_left, empty_text, behind_nothing)

@@ -170,7 +170,7 @@ impl<'a> Lexer<'a> {
         ensures rest { OnSome result (rest_of self.new ≡ after_first is_line_end (rest_of self.old)) }
         ensures next { OnSome result (line_of self.new ≡ line_of self.old + 1) }
         ensures words { IfSome result (λ t. left self.old ≡ map (λ w. (line_of self.old, w)) (words t.1.now) ++ left self.new) }
-        ensures behind { OnSome result (left self.new ≡ behind_line (line_of self.old) (left self.old)) }
+        ensures behind { left self.new ≡ behind_line (line_of self.old) (left self.old) }
         ensures none { IfNone result ((rest_of self.old ≡ []) × (rest_of self.new ≡ []) × (left self.old ≡ [])) }
         ensures bound { last_line self.new ≤ last_line self.old }
     {
