@@ -145,7 +145,7 @@ impl<'a> Lexer<'a> {
         ensures word { IfSome result (λ t. left self.old ≡ (line_of self.new, t.1.now) ∷ left self.new) }
         ensures number { IfSome result (λ t. t.0 ≡ told (line_of self.new)) }
         ensures rest { IfSome result (λ t. from_word (rest_of self.old) ≡ t.1.now ++ rest_of self.new) }
-        ensures none { IfNone result ((left self.old ≡ []) × (rest_of self.new ≡ [])) }
+        ensures none { IfNone result ((left self.old ≡ []) × (left self.new ≡ []) × (rest_of self.new ≡ [])) }
         ensures bound { last_line self.new ≤ last_line self.old }
     {
         let (line, rest) = behind_spaces(self.line, self.rest);

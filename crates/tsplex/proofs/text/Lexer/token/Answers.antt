@@ -6,4 +6,4 @@ pub returns-then-len-eq0-clause-none : goal.returns-then-len-eq0-clause-none
 returns-then-len-eq0-clause-none c =
     let none : length c.behind_spaces-line.result.1.now ≡ 0 = no_length _ _ (omega arith) c.behind_spaces-line.ensures.front in
     let back : length c.split_at.result.1.now ≡ 0 = omega arith in
-    (sym c.behind_spaces-line.ensures.same ∙ none_left _ _ none, empty_text _ back)
+    (sym c.behind_spaces-line.ensures.same ∙ none_left _ _ none, none_left _ _ back, empty_text _ back)

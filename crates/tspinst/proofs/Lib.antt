@@ -1,0 +1,5 @@
+pub mod HeaderLemmas
+pub mod TableLemmas
+pub mod FillLemmas
+pub mod WeightLemmas
+pub mod PointLemmas

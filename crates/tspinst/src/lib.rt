@@ -1,0 +1,15 @@
+//! Instances.
+#![tactic(auto)]
+
+mod header;
+mod keywords;
+mod points;
+mod refusals;
+mod square;
+mod table;
+mod weights;
+mod words;
+
+pub use refusals::{Part, ReadError, Refusal};
+pub use square::from_points;
+pub use table::Instance;
