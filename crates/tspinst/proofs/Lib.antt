@@ -3,3 +3,4 @@ pub mod TableLemmas
 pub mod FillLemmas
 pub mod WeightLemmas
 pub mod PointLemmas
+pub mod LineLemmas

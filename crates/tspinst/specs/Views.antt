@@ -1,6 +1,8 @@
 -- What functions did, unless memory ran out.
 use Rattle.std.specs.Prelude.{◌≡◌, Result, Ok, Err}
 use Rattle.tspdef.specs.Instances.{Instance}
+use Rattle.tspinst.specs.Texts.{Said}
+use Rattle.tspinst.specs.declared.reading.State.{State}
 use Rattle.tspinst.specs.declared.refusals.Refusal.{Refusal}
 use Rattle.tspinst.specs.declared.refusals.ReadError.{ReadError}
 use Rattle.tspinst.specs.declared.refusals.ReadError.TheVariants.{NoMemory, Failed, Refused}
@@ -25,3 +27,7 @@ IsRead (Ok i) read = read ≡ Ok i
 IsRead (Err NoMemory) read = Unit {0}
 IsRead (Err Failed) read = ⊥
 IsRead (Err (Refused e)) read = read ≡ Err e
+
+-- what a state says, without where it lies in memory
+abbrev pub said_of : State → Said
+said_of s = record { seen = s.seen; dimension = s.dimension; weight_type = s.weight_type; format = s.format; instance = s.instance }

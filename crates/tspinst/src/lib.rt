@@ -4,6 +4,7 @@
 mod header;
 mod keywords;
 mod points;
+mod reading;
 mod refusals;
 mod square;
 mod table;
