@@ -4,3 +4,4 @@ pub mod FillLemmas
 pub mod WeightLemmas
 pub mod PointLemmas
 pub mod LineLemmas
+pub mod Shrinking
