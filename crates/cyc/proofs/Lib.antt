@@ -1,0 +1,4 @@
+pub mod MarkLemmas
+pub mod ListLemmas
+pub mod Turns
+pub mod WholeTours

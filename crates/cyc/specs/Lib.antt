@@ -1,0 +1,4 @@
+pub mod Marks
+pub mod Tour
+pub mod CitySet
+pub mod Inside
