@@ -5,3 +5,5 @@ pub mod WeightLemmas
 pub mod PointLemmas
 pub mod LineLemmas
 pub mod Shrinking
+pub mod JudgingLemmas
+pub mod LengthLemmas

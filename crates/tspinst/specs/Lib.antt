@@ -5,3 +5,5 @@ pub mod Tables
 pub mod Sections
 pub mod Texts
 pub mod Views
+pub mod Reads
+pub mod Laws

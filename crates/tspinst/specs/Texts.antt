@@ -1,6 +1,6 @@
 -- Texts of instances: what their lines say, one after the other, and what the whole text says at its end, or the
 -- first refusal. After TSPLIB 95 (Reinelt 1995).
-use Rattle.std.specs.Prelude.{◌≡◌, ◌≤◌, ℕ, zero, suc, ◌*◌, ◌^◌, ◌&&◌, ◌==◌, Bool, true, false, not, nat_lt, if◌then◌else◌, List, [], ◌∷◌, length, replicate, Option, Some, None, Result, Ok, Err, slice_index_or, slice_set, codes}
+use Rattle.std.specs.Prelude.{◌≡◌, ℕ, zero, suc, ◌*◌, ◌^◌, ◌&&◌, ◌==◌, Bool, true, false, not, nat_lt, if◌then◌else◌, List, [], ◌∷◌, length, replicate, Option, Some, None, Result, Ok, Err, slice_index_or, slice_set, codes}
 use Rattle.std.specs.Str.{bytes_eq}
 use Rattle.tspdef.specs.Instances.{Instance}
 use Rattle.distx.specs.Kind.{rule_of}
@@ -162,7 +162,3 @@ pub record BadInstanceText (bytes : List ℕ) (number line : ℕ) (extras : List
   pub numbered : number_of refusal ≡ number
   pub placed : line_of refusal ≡ line
   pub told : extras_of refusal ≡ extras
-
--- No line is left out: a text has no more lines with words than words, and more of them change nothing.
-abbrev pub AllLinesAreRead : Type 0
-AllLinesAreRead = (bytes : List ℕ) (m : ℕ) → length (tokens bytes) ≤ m → lines m nothing_said (tokens bytes) ≡ lines (length (tokens bytes)) nothing_said (tokens bytes)

@@ -3,6 +3,7 @@
 
 mod header;
 mod keywords;
+mod laws;
 mod points;
 mod reading;
 mod refusals;
@@ -12,7 +13,8 @@ mod text;
 mod weights;
 mod words;
 
+pub use laws::{all_lines_are_read, texts_are_judged};
 pub use refusals::{Part, ReadError, Refusal};
 pub use square::from_points;
 pub use table::Instance;
-pub use text::{all_lines_are_read, read_text};
+pub use text::read;

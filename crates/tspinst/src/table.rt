@@ -3,9 +3,10 @@
 ghost use Rattle.std.specs.Prelude.{◌≡◌, ◌≢◌, ◌↔◌, ℕ, ◌+◌, ◌*◌, ◌^◌, ◌<◌, ◌≤◌, ◌==◌, ◌&&◌, length, replicate, IfOk, IsTrue};
 ghost use Rattle.std.specs.Cmp.Rules.{comparing};
 ghost use Rattle.std.proofs.Common.{rules};
-ghost use Rattle.tspdef.specs.Instances.{IsInstance, dist};
+ghost use Rattle.tspdef.specs.Instances.{IsInstance, dist, length_in};
 ghost use Rattle.tspinst.specs.Tables.{IsTable, is_same};
 
+use cyc::Tour;
 use std::alloc::{AllocError, Global};
 use std::marker::Model;
 
@@ -54,6 +55,22 @@ impl Instance {
         ensures small { result < 2 ^ 30 }
     {
         self.table[u as usize * self.n as usize + v as usize]
+    }
+
+    /// How long a tour of these cities is.
+    pub fn length(&self, tour: &Tour) -> u64
+        requires { length tour.now ≡ self.now.n }
+        ensures { result ≡ length_in self.now tour.now }
+    {
+        let cities = tour.cities();
+        let home = cities[0];
+        let mut here = home;
+        let mut travelled = 0u64;
+        for i in 1..cities.len() {
+            travelled += u64::from(self.d(here, cities[i]));
+            here = cities[i];
+        }
+        travelled + u64::from(self.d(here, home))
     }
 
     /// An equal instance.

@@ -1,0 +1,13 @@
+//! Laws of texts, each the contract of a function here.
+
+ghost use Rattle.tspinst.specs.Laws.{TextsAreJudged, AllLinesAreRead};
+
+/// Bytes are the text of exactly one instance, or have exactly one first refusal.
+pub fn texts_are_judged()
+    ensures { TextsAreJudged }
+{}
+
+/// No line of a text is left out: more lines than it has words change nothing.
+pub fn all_lines_are_read()
+    ensures { AllLinesAreRead }
+{}
