@@ -18,3 +18,6 @@ pub use refusals::{Part, ReadError, Refusal};
 pub use square::from_points;
 pub use table::Instance;
 pub use text::read;
+
+#[cfg(test)]
+mod tests;
