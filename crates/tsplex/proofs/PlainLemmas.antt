@@ -1,11 +1,12 @@
 -- Decimal numbers, alone and in lines.
-use Rattle.std.proofs.Common.{◌≡◌, ◌≢◌, ℕ, ◌^◌, ◌<◌, ◌≤◌, true, false, eqb, leb, List, [], ◌∷◌, length, decimal, Some, Ok, pos, refl, ap, ◌∙◌, arith, append-nil}
+use Rattle.std.proofs.Common.{◌≡◌, ◌≢◌, ℕ, ◌^◌, ◌<◌, ◌≤◌, true, false, eqb, leb, List, [], ◌∷◌, length, decimal, Some, Ok, ℤ, pos, negsuc, nat_abs, Bool, suc, refl, ap, ◌∙◌, arith, append-nil}
 use Rattle.std.specs.Char.{digit_value, is_ascii_digit}
+use Rattle.std.specs.Fmt.{signed_decimal}
 use Rattle.std.specs.Str.Parse.{AllDigits, digits_value}
 use Rattle.std.proofs.lemmas.Fmt.{decimal_is_IsNumeral}
 use Rattle.std.proofs.lemmas.Bool.{ne_eqb}
 use Rattle.std.proofs.lemmas.Bool.Decides.{nat_tests}
-use Rattle.tsplex.specs.Number.{Number, minus, digits, behind_digits, before_point, from_point, behind_point, from_power, token_digits, behind_sign, first_is, power, number, sized, whole_of}
+use Rattle.tsplex.specs.Number.{Number, minus, digits, behind_digits, before_point, from_point, behind_point, from_power, token_digits, behind_sign, first_is, power, number, sized, signed_size, whole_of}
 use Rattle.tsplex.proofs.WholeLemmas.{whole_size}
 use Rattle.tsplex.proofs.NumberLemmas.{digits_step, behind_step, number_some, whole_some}
 
@@ -32,29 +33,40 @@ unsigned (c ∷ cs) l h =
     let b : eqb c 43 ≡ false = ne_eqb c 43 (no_sign c h.0).1 in
     (rw (a, b) refl, a)
 
+behind_minus : (ds : List ℕ) → behind_sign (45 ∷ ds) ≡ ds
+unfolding behind_sign
+behind_minus ds = refl
+
 no_power : power [] ≡ Some (0, 0)
 unfolding power
 no_power = refl
 
-size_fits : (n most : ℕ) → n ≤ most → sized false most n ≡ Ok (pos n)
-size_fits n most l = let e : leb n most ≡ true = grind (arith, nat_tests) in rw e refl
+size_fits : (negative : Bool) (n most : ℕ) → n ≤ most → sized negative most n ≡ Ok (signed_size negative n)
+size_fits negative n most l = let e : leb n most ≡ true = grind (arith, nat_tests) in rw e refl
 
--- digits alone are their value
-plain_digits : (ds : List ℕ) (n most : ℕ) → 0 < length ds → AllDigits 10 ds → digits_value 10 ds ≡ n → n ≤ most → whole_of ds most ≡ Ok (pos n)
-plain_digits ds n most some h e l =
-    let before : before_point ds ≡ ds = ap digits (unsigned ds some h).0 ∙ digits_whole ds h in
-    let rest : from_point ds ≡ [] = ap behind_digits (unsigned ds some h).0 ∙ nothing_behind ds h in
-    let more : behind_point (from_point ds) ≡ [] = ap behind_point rest in
-    let end : from_power (from_point ds) ≡ [] = ap from_power rest in
-    let all : token_digits ds ≡ ds = rw more (append-nil (before_point ds) ∙ before) in
-    let x : Number = record { negative = false; digits = n; up = 0; down = 0 } in
-    let is : number ds ≡ Some x =
-    number_some ds (0, 0) (λ z. omega (arith, ap length before)) (ap power end ∙ no_power)
-    ∙ rw (all, more, e, (unsigned ds some h).1) refl
+-- digits behind a sign, or alone, are their value
+plain_token : (token ds : List ℕ) (negative : Bool) (n most : ℕ) → behind_sign token ≡ ds → first_is minus token ≡ negative → 0 < length ds → AllDigits 10 ds → digits_value 10 ds ≡ n → n ≤ most → whole_of token most ≡ Ok (signed_size negative n)
+plain_token token ds negative n most behind sign some h e l =
+    let before : before_point token ≡ ds = ap digits behind ∙ digits_whole ds h in
+    let rest : from_point token ≡ [] = ap behind_digits behind ∙ nothing_behind ds h in
+    let more : behind_point (from_point token) ≡ [] = ap behind_point rest in
+    let end : from_power (from_point token) ≡ [] = ap from_power rest in
+    let all : token_digits token ≡ ds = rw more (append-nil (before_point token) ∙ before) in
+    let x : Number = record { negative = negative; digits = n; up = 0; down = 0 } in
+    let is : number token ≡ Some x =
+    number_some token (0, 0) (λ z. omega (arith, ap length before)) (ap power end ∙ no_power)
+    ∙ rw (all, more, e, sign) refl
     in
-    whole_some ds most x is ∙ whole_size most x n refl ∙ size_fits n most l
+    whole_some token most x is ∙ whole_size most x n refl ∙ size_fits negative n most l
 
 pub plain_number : (n most : ℕ) → n ≤ most → most < 2 ^ 32 → whole_of (decimal n) most ≡ Ok (pos n)
 plain_number n most l small =
     let d = decimal_is_IsNumeral n (omega arith) in
-    plain_digits (decimal n) n most d.0.0 d.0.1 d.1 l
+    let u = unsigned (decimal n) d.0.0 d.0.1 in
+    plain_token (decimal n) (decimal n) false n most u.0 u.1 d.0.0 d.0.1 d.1 l
+
+pub plain_signed : (z : ℤ) (most : ℕ) → nat_abs z ≤ most → most < 2 ^ 32 → whole_of (signed_decimal z) most ≡ Ok z
+plain_signed (pos n) most l small = plain_number n most l small
+plain_signed (negsuc n) most l small =
+    let d = decimal_is_IsNumeral (suc n) (omega arith) in
+    plain_token (45 ∷ decimal (suc n)) (decimal (suc n)) true (suc n) most (behind_minus (decimal (suc n))) refl d.0.0 d.0.1 d.1 l

@@ -2,9 +2,10 @@
 --
 -- A number token is an optional sign, digits with at most one point among, before or after them (at least one
 -- digit), and optionally `e` or `E`, an optional sign and at least one digit.
-use Rattle.std.specs.Prelude.{◌≡◌, ◌<◌, ◌≤◌, decimal, ℕ, ◌+◌, ◌*◌, ◌/◌, ◌%◌, ◌^◌, Bool, false, ◌||◌, ◌&&◌, ◌==◌, nat_lt, nat_le, if◌then◌else◌, List, [], ◌∷◌, ◌++◌, length, drop, take_while, ℤ, pos, neg_ℤ, Option, Some, None, Result, Ok, Err}
+use Rattle.std.specs.Prelude.{◌≡◌, ◌<◌, ◌≤◌, ℕ, ◌+◌, ◌*◌, ◌/◌, ◌%◌, ◌^◌, Bool, false, ◌||◌, ◌&&◌, ◌==◌, nat_lt, nat_le, if◌then◌else◌, List, [], ◌∷◌, ◌++◌, length, drop, take_while, ℤ, pos, neg_ℤ, nat_abs, Option, Some, None, Result, Ok, Err}
 use Rattle.std.specs.List.{prefix_len}
 use Rattle.std.specs.Char.{is_ascii_digit}
+use Rattle.std.specs.Fmt.{signed_decimal}
 use Rattle.std.specs.Str.Parse.{digits_value}
 use Rattle.tsplex.specs.declared.number.NumberFault.{NumberFault}
 use Rattle.tsplex.specs.declared.number.NumberFault.TheVariants.{NotANumber, Fractional, OutOfRange}
@@ -111,6 +112,6 @@ natural_of token most = (if nat_lt 0 (length (digits token)) && length (behind_d
 
 -- ---- laws
 
--- The decimal digits of a number are read as it.
+-- A whole number is read from its decimal digits, with a minus before them where it is negative.
 abbrev pub PlainNumbersAreRead : Type 0
-PlainNumbersAreRead = (n most : ℕ) → n ≤ most → most < 2 ^ 32 → whole_of (decimal n) most ≡ Ok (pos n)
+PlainNumbersAreRead = (z : ℤ) (most : ℕ) → nat_abs z ≤ most → most < 2 ^ 32 → whole_of (signed_decimal z) most ≡ Ok z

@@ -171,7 +171,7 @@ pub fn natural(token: &[u8], most: u32) -> Option<u32>
     }
 }
 
-/// The decimal digits of a number are read as it.
+/// A whole number is read from its decimal digits, with a minus before them where it is negative.
 pub fn plain_numbers_are_read()
     ensures { PlainNumbersAreRead }
 {}
