@@ -1,4 +1,10 @@
-//! Instances.
+//! Instances of the symmetric travelling salesman problem, and the texts that they are read from (TSPLIB 95).
+//!
+//! - [`Instance`] is a number of cities and the table of their distances.
+//! - [`from_points`] makes one of points.
+//! - [`read`] reads one from a desk, or tells the first refusal of its text as a [`ReadError`].
+//! - [`texts_are_judged`], [`all_lines_are_read`]: laws of the definition that `read` is proved against, which stands
+//!   in `specs/Texts.antt`.
 #![tactic(auto)]
 
 mod header;
