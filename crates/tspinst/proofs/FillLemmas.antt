@@ -101,7 +101,7 @@ same_places (x ∷ xs) (y ∷ ys) e h =
     let rest : xs ≡ ys = same_places xs ys (omega arith) (λ k l. h (suc k) (omega arith)) in
     rw (first, rest) refl
 
-some_row : (n k : ℕ) → k < n * n → 0 < n
+pub some_row : (n k : ℕ) → k < n * n → 0 < n
 some_row zero k l = absurd (omega arith)
 some_row (suc n) k l = omega arith
 

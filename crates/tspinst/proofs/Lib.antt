@@ -7,3 +7,6 @@ pub mod LineLemmas
 pub mod Shrinking
 pub mod JudgingLemmas
 pub mod LengthLemmas
+pub mod PlainLines
+pub mod PlainPoints
+pub mod PlainMatrix

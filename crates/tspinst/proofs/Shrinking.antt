@@ -205,3 +205,10 @@ outcome_read bytes l =
     rw e (all_lines (length bytes) (length (tokens bytes)) nothing_said (tokens bytes) (count_tokens 1 bytes) (omega arith))
 
 pub ruleset outcomes = (outcome_long, outcome_read)
+
+-- with more lines than there are words
+pub outcome_short : (bytes : List ℕ) (m : ℕ) → length bytes ≤ 2 ^ 26 → length (tokens bytes) ≤ m → outcome bytes ≡ lines m nothing_said (tokens bytes)
+unfolding outcome
+outcome_short bytes m l h =
+    let e : ltb (2 ^ 26) (length bytes) ≡ false = grind (arith, nat_tests) in
+    rw e (all_lines (length (tokens bytes)) m nothing_said (tokens bytes) (omega arith) h)

@@ -7,3 +7,4 @@ pub mod Texts
 pub mod Views
 pub mod Reads
 pub mod Laws
+pub mod Plain
