@@ -5,16 +5,29 @@ ghost use Rattle.cyc.specs.Marks.{AreMarksOf};
 
 use crate::marks::Marks;
 use std::alloc::{AllocError, Global};
+use std::error::Error;
+use std::fmt;
 use std::marker::Model;
 
 /// Why a list of cities is no set.
-#[derive(Clone, Copy, Debug, PartialEq, Eq, Drop)]
+#[derive(Clone, Copy, Debug, PartialEq, Eq)]
 pub enum CitySetError {
     /// The cities do not rise strictly, or one is no city.
     NotRising,
     /// There is no memory.
     NoMemory,
 }
+
+impl fmt::Display for CitySetError {
+    fn fmt<W: fmt::Write>(&self, f: &mut fmt::Formatter<W>) -> fmt::Result {
+        match self {
+            CitySetError::NotRising => write!(f, "the cities do not rise"),
+            CitySetError::NoMemory => write!(f, "out of memory"),
+        }
+    }
+}
+
+impl Error for CitySetError {}
 
 impl From<AllocError> for CitySetError {
     ghost use Rattle.std.specs.Prelude.{◌≡◌};
@@ -40,7 +53,7 @@ impl Model for CitySet {
 
     ghost Value = { Members };
 
-    ghost use Rattle.cyc.specs.Inside.{members_of, IsMarked};
+    ghost use Rattle.cyc.specs.CitySetInside.{members_of, IsMarked};
 
     ghost view = { members_of };
 
@@ -64,7 +77,7 @@ impl CitySet {
 
     /// How many cities there are in all.
     pub fn n(&self) -> u32
-        ensures same { result ≡ self.now.n }
+        ensures value { result ≡ self.now.n }
         ensures many { 3 ≤ result }
         ensures few { result ≤ 2000 }
     {
@@ -104,6 +117,29 @@ impl CitySet {
             members: self.members.copy(alloc)?,
         })
     }
+}
+
+impl PartialEq for CitySet {
+    ghost use Rattle.std.specs.Prelude.{◌==◌};
+    ghost use Rattle.std.specs.Ordering.{on, eq_of_both};
+    ghost use Rattle.std.specs.Cmp.Lexicographic.{pointwise};
+    ghost use Rattle.std.specs.Cmp.Rules.{comparing};
+    ghost use Rattle.std.proofs.Common.{rules};
+
+    ghost eq = { eq_of_both (on (λ s. s.n) ◌==◌) (on (λ s. s.cities) (pointwise ◌==◌)) };
+
+    ghost laws = { Prim.search (comparing, rules) };
+
+    fn eq(&self, other: &CitySet) -> bool {
+        self.n == other.n && self.cities.as_slice() == other.cities.as_slice()
+    }
+}
+
+impl Eq for CitySet {
+    ghost use Rattle.std.specs.Cmp.Rules.{comparing};
+    ghost use Rattle.std.proofs.Common.{rules};
+
+    ghost laws = { Prim.search (comparing, rules) };
 }
 
 /// Whether the cities rise strictly, below `n`.
