@@ -8,17 +8,26 @@
 mod buffers;
 mod calls;
 mod desk;
+mod file_desk;
+mod file_slots;
+mod files;
 mod memory_desk;
 mod memory_slots;
 mod record;
 mod room;
+mod slot_file;
 mod slots;
 mod transfer;
 
 pub use desk::{Desk, Failed, Inlet, Outlet};
+pub use file_desk::FileDesk;
+pub use file_slots::FileSlots;
 pub use memory_desk::MemDesk;
 pub use memory_slots::MemSlots;
 pub use record::{SlotCall, SlotEntry};
 pub use room::Room;
 pub use slots::Slots;
 pub use transfer::{ReadError, read_to_end, write_all};
+
+#[cfg(test)]
+mod tests;
