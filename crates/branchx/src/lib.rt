@@ -1,13 +1,14 @@
-// A library with one function.
+//! Branching: the conditions on tours from the root of a search tree to a node, and by what the node is split.
+//!
+//! An edge split asks whether two cities are joined; a clique split whether a set is crossed twice or more often.
 #![tactic(auto)]
 
-ghost use Rattle.std.specs.Prelude.{◌≡◌};
-ghost use Rattle.branchx.specs.Echo.{echo_of};
+mod branch;
+mod choice;
+mod cond;
+mod path;
 
-// The `ensures` clause is the contract: what `echo` returns is `echo_of` of its argument, a definition
-// in `specs/Echo.antt`, which a caller's clause can cite too.
-pub fn echo(x: usize) -> usize
-    ensures { result ≡ echo_of x }
-{
-    x
-}
+pub use branch::Branch;
+pub use choice::choose;
+pub use cond::Cond;
+pub use path::{Path, decided, is_new};
