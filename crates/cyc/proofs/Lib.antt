@@ -2,3 +2,4 @@ pub mod MarkLemmas
 pub mod ListLemmas
 pub mod Turns
 pub mod WholeTours
+pub mod EntryLemmas

@@ -1,8 +1,8 @@
 -- Lists of cities, from the front on.
-use Rattle.std.proofs.Common.{◌≡◌, ℕ, ◌+◌, ◌<◌, ◌≤◌, Bool, true, false, eqb, ◌||◌, List, [], ◌∷◌, ◌++◌, length, zero, suc, get_or, take, drop, refl, sym, ap, ◌∙◌, subst, arith, inl, inr, ⊎_elim}
+use Rattle.std.proofs.Common.{◌≡◌, ℕ, ◌+◌, ◌<◌, Bool, true, false, eqb, ◌||◌, List, [], ◌∷◌, ◌++◌, length, zero, suc, get_or, take, refl, sym, ap, ◌∙◌, subst, arith}
 use Rattle.std.specs.List.{AllByRecursion}
-use Rattle.std.proofs.lemmas.Bool.{or_cases, or_parts, or_from, or_left, or_right, eqb-true, ne_eqb, eq-eqb}
-use Rattle.tspdef.specs.Sets.{has, RisesFrom, IsSet}
+use Rattle.std.proofs.lemmas.Bool.{or_parts, or_from, or_left, or_right, ne_eqb, eq-eqb}
+use Rattle.tspdef.specs.Sets.{has, RisesFrom}
 use Rattle.tspdef.specs.Tours.{AreDistinct}
 
 or_assoc : (x y z : Bool) → (x || y) || z ≡ x || (y || z)

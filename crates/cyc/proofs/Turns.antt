@@ -1,6 +1,6 @@
 -- How often a walk enters or leaves a set, told by whether it is inside.
-use Rattle.std.proofs.Common.{◌≡◌, ℕ, ◌+◌, ◌<◌, Bool, true, false, cond, not, List, [], ◌∷◌, length, get_or, refl, sym, subst, ap, ◌∙◌, arith}
-use Rattle.tspdef.specs.Tours.{walk, steps, crosses, crossings}
+use Rattle.std.proofs.Common.{◌≡◌, ℕ, ◌+◌, ◌<◌, Bool, true, false, cond, not, List, [], ◌∷◌, length, get_or, refl, sym, subst, ap, arith}
+use Rattle.tspdef.specs.Tours.{walk, steps, crossings}
 
 -- one of the two is inside
 abbrev pub differ : Bool → Bool → Bool

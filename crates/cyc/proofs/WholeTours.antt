@@ -1,12 +1,12 @@
 -- Tours of a size that the program takes: the first of them, and their canonical forms.
-use Rattle.std.proofs.Common.{◌≡◌, ℕ, zero, suc, ◌+◌, ◌-◌, ◌<◌, ◌≤◌, Bool, true, false, cond, eqb, ltb, ◌||◌, List, [], ◌∷◌, ◌++◌, length, get_or, take, drop, refl, sym, ap, ◌∙◌, subst, arith, inl, inr, ⊎_elim}
+use Rattle.std.proofs.Common.{◌≡◌, ℕ, zero, suc, ◌+◌, ◌-◌, ◌<◌, ◌≤◌, Bool, true, false, cond, ltb, List, [], ◌∷◌, ◌++◌, length, get_or, take, drop, refl, sym, ap, ◌∙◌, subst, arith, inl, inr}
 use Rattle.std.specs.Prelude.{reverse}
 use Rattle.std.specs.List.{AllByRecursion, range_with_len}
-use Rattle.std.proofs.lemmas.Bool.{cases_Bool, ltb-true, ltb-false, ne_eqb, or_from}
+use Rattle.std.proofs.lemmas.Bool.{ltb-true, ltb-false, ne_eqb, or_from}
 use Rattle.std.proofs.lemmas.List.{take-append-drop, drop_more, append_assoc, reverse-append, length-reverse, length-append, length-take, length-drop, get_or-reverse, get_or-take}
 use Rattle.std.proofs.lemmas.List.FromFn.{length-range_with_len}
 use Rattle.tspdef.specs.Sets.{has}
-use Rattle.tspdef.specs.Tours.{AreDistinct, IsTour, last_city, IsCanonical, IsTurned, IsSameCycle, IsCanonicalForm}
+use Rattle.tspdef.specs.Tours.{AreDistinct, IsTour, last_city, IsCanonical, IsSameCycle, IsCanonicalForm}
 use Rattle.tspdef.specs.Instances.{Instance}
 use Rattle.tspdef.proofs.CycleLemmas.{same_cycle_is_same_tour}
 use Rattle.cyc.specs.Tour.{IsWhole}
@@ -123,13 +123,13 @@ is_canonical_form tour form result p whole within home turned facing =
     let e : tour ≡ f ++ 0 ∷ b = sym (take-append-drop p tour) ∙ ap (λ xs. f ++ xs) from_home in
     let form_is : form ≡ 0 ∷ w = turned ∙ ap (λ xs. xs ++ f) from_home in
     let some : 1 ≤ length w = (
-      let m = whole.many in let l = length-append b f in let d = length-drop (p + 1) tour in let t = length-take p tour in omega arith
+    let m = whole.many in let l = length-append b f in let d = length-drop (p + 1) tour in let t = length-take p tour in omega arith
     ) in
     let t = ltb (get_or (0 ∷ w) (length (0 ∷ w) - 1) 0) (get_or (0 ∷ w) 1 0) in
     let test : t ≡ ltb (get_or w (length w - 1) 0) (get_or w 0 0) = ap (λ k. ltb k (get_or w 0 0)) (last_behind 0 w some) in
     let is : result ≡ cond t (0 ∷ reverse w) (0 ∷ w) = subst
-        (λ (xs : List ℕ). result ≡ cond (ltb (get_or xs (length xs - 1) 0) (get_or xs 1 0)) (take 1 xs ++ reverse (drop 1 xs)) xs)
-        form_is facing in
+    (λ (xs : List ℕ). result ≡ cond (ltb (get_or xs (length xs - 1) 0) (get_or xs 1 0)) (take 1 xs ++ reverse (drop 1 xs)) xs)
+    form_is facing in
     subst (IsCanonicalForm tour) (sym is) (faced tour f b whole e t test)
 
 pub form_is_whole : (tour form : List ℕ) → IsWhole tour → IsCanonicalForm tour form → IsWhole form

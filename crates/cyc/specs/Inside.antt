@@ -1,5 +1,5 @@
 -- The fields of a set of cities: the list, and a mark on each city of it.
-use Rattle.std.specs.Prelude.{ℕ, ◌≤◌}
+use Rattle.std.specs.Prelude.{◌≤◌}
 use Rattle.tspdef.specs.Sets.{IsSet}
 use Rattle.cyc.specs.Marks.{AreMarksOf}
 use Rattle.cyc.specs.CitySet.{Members}

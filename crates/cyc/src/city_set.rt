@@ -106,6 +106,29 @@ impl CitySet {
     }
 }
 
+impl PartialEq for CitySet {
+    ghost use Rattle.std.specs.Prelude.{◌==◌};
+    ghost use Rattle.std.specs.Ordering.{on, eq_of_both};
+    ghost use Rattle.std.specs.Cmp.Lexicographic.{pointwise};
+    ghost use Rattle.std.specs.Cmp.Rules.{comparing};
+    ghost use Rattle.std.proofs.Common.{rules};
+
+    ghost eq = { eq_of_both (on (λ s. s.n) ◌==◌) (on (λ s. s.cities) (pointwise ◌==◌)) };
+
+    ghost laws = { Prim.search (comparing, rules) };
+
+    fn eq(&self, other: &CitySet) -> bool {
+        self.n == other.n && self.cities.as_slice() == other.cities.as_slice()
+    }
+}
+
+impl Eq for CitySet {
+    ghost use Rattle.std.specs.Cmp.Rules.{comparing};
+    ghost use Rattle.std.proofs.Common.{rules};
+
+    ghost laws = { Prim.search (comparing, rules) };
+}
+
 /// Whether the cities rise strictly, below `n`.
 fn is_rising(n: u32, cities: &[u32]) -> bool
     ensures { IsTrue result ↔ IsSet n cities.now }

@@ -3,8 +3,13 @@
 #![tactic(auto)]
 
 mod city_set;
+mod frac;
 mod marks;
 mod tour;
 
 pub use city_set::{CitySet, CitySetError};
+pub use frac::{Entry, Frac, FracError};
 pub use tour::{Tour, TourError};
+
+#[cfg(test)]
+mod tests;

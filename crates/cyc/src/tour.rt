@@ -48,7 +48,6 @@ impl Model for Tour {
 }
 
 impl Tour {
-
     /// The tour 0, 1, .. n - 1.
     pub fn identity(alloc: Global, n: u32) -> Result<Tour, AllocError>
         requires many { 3 ≤ n }
@@ -115,6 +114,28 @@ impl Tour {
             cities: Vec::from_slice(alloc, &self.cities)?,
         })
     }
+}
+
+impl PartialEq for Tour {
+    ghost use Rattle.std.specs.Prelude.{◌==◌};
+    ghost use Rattle.std.specs.Cmp.Lexicographic.{pointwise};
+    ghost use Rattle.std.specs.Cmp.Rules.{comparing};
+    ghost use Rattle.std.proofs.Common.{rules};
+
+    ghost eq = { pointwise ◌==◌ };
+
+    ghost laws = { Prim.search (comparing, rules) };
+
+    fn eq(&self, other: &Tour) -> bool {
+        self.cities.as_slice() == other.cities.as_slice()
+    }
+}
+
+impl Eq for Tour {
+    ghost use Rattle.std.specs.Cmp.Rules.{comparing};
+    ghost use Rattle.std.proofs.Common.{rules};
+
+    ghost laws = { Prim.search (comparing, rules) };
 }
 
 /// Whether the cities are below `n` and all different.

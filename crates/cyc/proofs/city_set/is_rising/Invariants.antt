@@ -1,4 +1,4 @@
-use Rattle.std.proofs.Common.{◌↔◌, ◌<◌, ◌≤◌, drop}
+use Rattle.std.proofs.Common.{◌↔◌, ◌≤◌, drop}
 use Rattle.tspdef.specs.Sets.{RisesFrom, IsSet}
 use Rattle.cyc.proofs.city_set.is_rising.Given as goal
 

@@ -1,6 +1,5 @@
-use Rattle.std.proofs.Common.{◌<◌, ap, sym, ◌∙◌, ◌||◌, eqb, get_or, take, arith}
+use Rattle.std.proofs.Common.{ap, ◌∙◌, ◌||◌, eqb, get_or, take, arith}
 use Rattle.std.proofs.lemmas.List.{take_more}
-use Rattle.tspdef.specs.Sets.{has}
 use Rattle.cyc.proofs.ListLemmas.{set_below, below_at, has-push}
 use Rattle.cyc.proofs.city_set.marks_of.Goals as goal
 

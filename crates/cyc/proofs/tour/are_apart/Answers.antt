@@ -1,7 +1,6 @@
-use Rattle.std.proofs.Common.{◌≡◌, ◌<◌, ap, sym, ◌∙◌, ◌||◌, true, false, eqb, get_or, take, rules, arith}
+use Rattle.std.proofs.Common.{◌≡◌, ap, sym, ◌∙◌, ◌||◌, false, eqb, get_or, take, arith}
 use Rattle.std.proofs.lemmas.List.{take_more}
 use Rattle.tspdef.specs.Sets.{has}
-use Rattle.cyc.specs.Tour.{AreApart}
 use Rattle.cyc.proofs.ListLemmas.{below_at, distinct_at, has-push, below_push, distinct_push}
 use Rattle.cyc.proofs.tour.are_apart.Goals as goal
 use Rattle.cyc.proofs.tour.are_apart.Goals.{then-city-n-via-then-city-n, then-city-n-via-else-city-n+then-is_marked}

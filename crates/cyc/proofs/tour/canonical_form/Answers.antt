@@ -1,4 +1,4 @@
-use Rattle.std.proofs.Common.{◌≡◌, ◌+◌, length, drop, take, ◌++◌, ap, ◌∙◌, arith, vec_len}
+use Rattle.std.proofs.Common.{◌≡◌, length, drop, take, ◌++◌, ap, arith}
 use Rattle.std.proofs.lemmas.List.{length-append, length-take, length-drop}
 use Rattle.tspdef.proofs.Steps.{tour_has}
 use Rattle.cyc.proofs.WholeTours.{is_canonical_form}
