@@ -1,12 +1,12 @@
 -- Paths: what their conditions are, and how they grow.
-use Rattle.std.proofs.Common.{◌≡◌, ℕ, ◌+◌, ◌<◌, Bool, true, false, ◌||◌, List, [], ◌∷◌, ◌++◌, length, map, take, get_or, refl, sym, ap, subst, ◌∙◌}
+use Rattle.std.proofs.Common.{◌≡◌, ℕ, ◌+◌, ◌<◌, Bool, true, false, ◌||◌, List, [], ◌∷◌, ◌++◌, length, map, take, get_or, refl, sym, ap, subst, ◌∙◌, Some, None}
 use Rattle.std.specs.List.{All, AllByRecursion}
 use Rattle.std.proofs.lemmas.List.{get_or-map, length-map, append_assoc, map-append, take_more, get_or_read}
 use Rattle.std.proofs.lemmas.List.Elements.{All-map, All-from_recursion, recursion_from_All}
 use Rattle.tspdef.specs.Tours.{joins}
 use Rattle.tspdef.specs.Paths.{Condition, absent, present, two, four, is_absent, is_present, is_decided, IsPair, MayFollow, ContinuesPath, IsPath, IsApartFrom, IsNew}
 use Rattle.branchx.specs.declared.cond.Cond.{Cond}
-use Rattle.branchx.specs.Cond.{condition_of, conditions_of, decides}
+use Rattle.branchx.specs.Cond.{condition_of, conditions_of, pair_of, decides}
 
 or_false : (b : Bool) → (b || false) ≡ b
 or_false true = refl
@@ -73,6 +73,29 @@ pair-of_next n path (four s) m = tt
 each-pair : (n : ℕ) (path cs : List Condition) → ContinuesPath n path cs → AllByRecursion (HasPair n) cs
 each-pair n path [] h = tt
 each-pair n path (c ∷ cs) h = (pair-of_next n path c h.0, each-pair n (path ++ c ∷ []) cs h.1)
+
+same_pair : (p q : ℕ × ℕ) → Some p ≡ Some q → (p.0 ≡ q.0) × (p.1 ≡ q.1)
+same_pair p q e =
+    let same : p ≡ q = cc in
+    (ap (λ (r : ℕ × ℕ). r.0) same, ap (λ (r : ℕ × ℕ). r.1) same)
+
+pub pair_of-is : (n : ℕ) (c : Condition) (u v : ℕ) → HasPair n c → pair_of c ≡ Some (u, v) → IsPair n u v
+pair_of-is n (absent a b) u v h e = let at = same_pair (a, b) (u, v) e in subst (λ x. IsPair n x v) at.0 (subst (λ y. IsPair n a y) at.1 h)
+pair_of-is n (present a b) u v h e = let at = same_pair (a, b) (u, v) e in subst (λ x. IsPair n x v) at.0 (subst (λ y. IsPair n a y) at.1 h)
+pair_of-is n (two s) u v h e = cc
+pair_of-is n (four s) u v h e = cc
+
+pub decides-pair : (c : Condition) (a b u v : ℕ) → pair_of c ≡ Some (a, b) → decides c u v ≡ joins u v (a, b)
+decides-pair (absent x y) a b u v e = let at = same_pair (x, y) (a, b) e in ap (λ z. joins u v (z, y)) at.0 ∙ ap (λ z. joins u v (a, z)) at.1
+decides-pair (present x y) a b u v e = let at = same_pair (x, y) (a, b) e in ap (λ z. joins u v (z, y)) at.0 ∙ ap (λ z. joins u v (a, z)) at.1
+decides-pair (two s) a b u v e = cc
+decides-pair (four s) a b u v e = cc
+
+pub decides-none : (c : Condition) (u v : ℕ) → ((p : ℕ × ℕ) → pair_of c ≡ Some p → ⊥) → decides c u v ≡ false
+decides-none (absent x y) u v none = absurd (none (x, y) refl)
+decides-none (present x y) u v none = absurd (none (x, y) refl)
+decides-none (two s) u v none = refl
+decides-none (four s) u v none = refl
 
 -- what holds of each condition, by places in the code's list
 pub each-from_all : (P : Condition → Type 0) (xs : List Cond) → All (λ x. P (condition_of x)) xs → AllByRecursion P (conditions_of xs)

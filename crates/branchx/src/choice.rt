@@ -8,11 +8,12 @@ ghost use Rattle.branchx.specs.Choice.{tabled, IsTableOf, IsFirstOpen, IsFirstOp
 use crate::branch::Branch;
 use crate::cond::Cond;
 use crate::path::Path;
+use cyc::Frac;
 use std::alloc::{AllocError, Global};
 
 /// By what to split a node with a path, where the relaxation has these values on pairs: nothing where every pair is
 /// decided, and else an undecided pair or a proper set that is new.
-pub fn choose(alloc: Global, path: &Path) -> Result<Option<Branch>, AllocError>
+pub fn choose(alloc: Global, _x: &Frac, path: &Path) -> Result<Option<Branch>, AllocError>
     ensures none { IfOk result (λ b. IsNone b ↔ DecidesAll path.now.n path.now.conditions) }
     ensures some { IfOk result (λ b. IfSome b (IsSplit path.now.n path.now.conditions)) }
 {
@@ -42,9 +43,8 @@ fn mark_decided(n: u32, conditions: &[Cond], table: &mut [bool])
     ensures { IsTableOf n (conditions_of conditions.now) table.new }
 {
     for cond in conditions {
-        match cond {
-            Cond::Absent(u, v) | Cond::Present(u, v) => table[place(n, *u, *v)] = true,
-            Cond::Two(_) | Cond::Four(_) => {}
+        if let Some((u, v)) = cond.pair() {
+            table[place(n, u, v)] = true;
         }
     }
 }

@@ -20,7 +20,7 @@ pub enum Cond {
 }
 
 impl Cond {
-    ghost use Rattle.branchx.specs.Cond.{condition_of, decides};
+    ghost use Rattle.branchx.specs.Cond.{condition_of, pair_of, decides};
 
     /// An equal condition.
     pub fn copy(&self, alloc: Global) -> Result<Cond, AllocError>
@@ -34,16 +34,25 @@ impl Cond {
         })
     }
 
+    /// The pair that it decides, if it is on a pair.
+    #[inline]
+    pub fn pair(&self) -> Option<(u32, u32)>
+        ensures { result ≡ pair_of (condition_of self.now) }
+    {
+        match self {
+            Cond::Absent(u, v) | Cond::Present(u, v) => Some((*u, *v)),
+            Cond::Two(_) | Cond::Four(_) => None,
+        }
+    }
+
     /// Whether it says of two cities, in either order, if they are joined.
     #[inline]
     pub fn decides(&self, u: u32, v: u32) -> bool
         ensures { result ≡ decides (condition_of self.now) u v }
     {
-        match self {
-            Cond::Absent(a, b) | Cond::Present(a, b) => {
-                (*a == u && *b == v) || (*a == v && *b == u)
-            }
-            Cond::Two(_) | Cond::Four(_) => false,
+        match self.pair() {
+            Some((a, b)) => (a == u && b == v) || (a == v && b == u),
+            None => false,
         }
     }
 
