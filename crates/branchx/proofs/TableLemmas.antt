@@ -18,14 +18,15 @@ joins-other : (u v a b : ℕ) → u < v → a < b → ((a ≡ u) × (b ≡ v) �
 joins-other u v a b h k ne = or_from _ _ first second where
   first : ((a == u) && (b == v)) ≡ false
   first = elim (cases_eq a u) [
-      inl e ↦ and_right _ _ (ne_eqb b v (λ f. ne (e, f)))
+    | inl e ↦ and_right _ _ (ne_eqb b v (λ f. ne (e, f)))
     | inr d ↦ and_left _ _ (ne_eqb a u d)
-    ]
+  ]
+
   second : ((a == v) && (b == u)) ≡ false
   second = elim (cases_eq a v) [
-      inl e ↦ and_right _ _ (ne_eqb b u (λ f. omega arith))
+    | inl e ↦ and_right _ _ (ne_eqb b u (λ f. omega arith))
     | inr d ↦ and_left _ _ (ne_eqb a v d)
-    ]
+  ]
 
 or_false : (b : Bool) → (b || false) ≡ b
 or_false true = refl
@@ -36,16 +37,16 @@ pub tabled-set : (n : ℕ) (table : List Bool) (a b u v : ℕ) → length table 
     → tabled n (set table (a * n + b) true) u v ≡ (tabled n table u v || joins u v (a, b))
 tabled-set n table a b u v long pair low high =
     elim (cases_eq (u * n + v) (a * n + b)) [
-      inl e ↦
-        let same = same_from_place u v a b n high pair.1 e in
-        let in' : a * n + b < length table = omega (arith, mul-add-lt a n b n (omega arith) pair.1) in
-        subst (λ k. get_or (set table (a * n + b) true) k false ≡ (get_or table k false || joins u v (a, b))) (sym e)
+      | inl e ↦
+          let same = same_from_place u v a b n high pair.1 e in
+          let in' : a * n + b < length table = omega (arith, mul-add-lt a n b n (omega arith) pair.1) in
+          subst (λ k. get_or (set table (a * n + b) true) k false ≡ (get_or table k false || joins u v (a, b))) (sym e)
           (get_or-set_same table (a * n + b) true false in'
           ∙ sym (or_right _ _ (subst (λ x. joins x v (a, b) ≡ true) (sym same.0) (subst (λ y. joins a y (a, b) ≡ true) (sym same.1) (joins-same a b)))))
-    | inr ne ↦
-        let other = joins-other u v a b low pair.0 (λ e. ne (ap (λ x. x * n + v) (sym e.0) ∙ ap (λ y. a * n + y) (sym e.1))) in
-        get_or-set_other table (a * n + b) (u * n + v) true false ne
-        ∙ (sym (or_false (tabled n table u v)) ∙ ap (λ c. tabled n table u v || c) (sym other))
+      | inr ne ↦
+          let other = joins-other u v a b low pair.0 (λ e. ne (ap (λ x. x * n + v) (sym e.0) ∙ ap (λ y. a * n + y) (sym e.1))) in
+          get_or-set_other table (a * n + b) (u * n + v) true false ne
+          ∙ (sym (or_false (tabled n table u v)) ∙ ap (λ c. tabled n table u v || c) (sym other))
     ]
 
 -- the next condition, on a pair that is marked

@@ -5,7 +5,7 @@ use cyc::CitySet;
 use std::alloc::{AllocError, Global};
 
 /// What the two children of a node disagree on.
-#[derive(Debug, Drop)]
+#[derive(Debug, PartialEq, Eq, Drop)]
 pub enum Branch {
     /// Whether two cities, the lower one first, are joined.
     Edge(u32, u32),

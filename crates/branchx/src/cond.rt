@@ -7,7 +7,7 @@ use cyc::CitySet;
 use std::alloc::{AllocError, Global};
 
 /// What a tour must meet.
-#[derive(Debug, Drop)]
+#[derive(Debug, PartialEq, Eq, Drop)]
 pub enum Cond {
     /// The two cities, the lower one first, are not joined.
     Absent(u32, u32),

@@ -12,3 +12,6 @@ pub use branch::Branch;
 pub use choice::choose;
 pub use cond::Cond;
 pub use path::{Path, decided, is_new};
+
+#[cfg(test)]
+mod tests;
