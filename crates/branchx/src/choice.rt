@@ -19,10 +19,7 @@ pub fn choose(alloc: Global, _x: &Frac, path: &Path) -> Result<Option<Branch>, A
 {
     let n = path.n();
     let table = table_of(alloc, n, path)?;
-    Ok(match first_open(n, &table) {
-        Some((u, v)) => Some(Branch::Edge(u, v)),
-        None => None,
-    })
+    Ok(first_open(n, &table).map(|(u, v)| Branch::Edge(u, v)))
 }
 
 // Which pairs are decided: each pair u < v at place u * n + v, so that no pair needs a look through the path.

@@ -1,13 +1,12 @@
 //! A cut as one value, with its order and its hash.
-ghost use Rattle.std.specs.Prelude.{◌≡◌, ℕ, ◌∷◌, [], ◌≤◌, ◌↔◌, List, length, map, IsTrue, IfOk, OnOk, IfErr, IsErrOf, IsOkUnless};
-ghost use Rattle.std.specs.Prelude.{fold};
+ghost use Rattle.std.specs.Prelude.{◌≡◌, ◌≤◌, ◌↔◌, List, fold, IsTrue, IfOk, OnOk, IfErr, IsErrOf, IsOkUnless};
 ghost use Rattle.std.specs.Ordering.{nat_cmp, eq_by_cmp, as_partial_cmp};
 ghost use Rattle.std.specs.Cmp.Lexicographic.{slice_cmp};
 ghost use Rattle.std.specs.Hash as fed;
 ghost use Rattle.tspdef.specs.Sets.{IsProper};
 ghost use Rattle.tspdef.specs.Cuts.{subtour, comb, cities_of, sets_of, right_side, coefficient, IsComb, IsCut, HoldsOf, cut_cmp};
 ghost use Rattle.tspdef.specs.Instances.{Instance, IsTourOf};
-ghost use Rattle.cutform.specs.Combs.{AreProper, AreOddMany, IsDefect};
+ghost use Rattle.cutform.specs.Combs.{IsDefect};
 ghost use Rattle.cutform.specs.Cut.{cities_of_each, kind_of};
 
 use crate::comb;
@@ -99,7 +98,7 @@ impl Cut {
 
     /// Of how many cities it is a cut.
     pub fn n(&self) -> u32
-        ensures same { result ≡ cities_of self.now }
+        ensures value { result ≡ cities_of self.now }
         ensures many { 3 ≤ result }
         ensures few { result ≤ 2000 }
         ensures is_cut { IsCut result self.now }
