@@ -42,11 +42,11 @@ unmet (a ∷ t) s c m h = let p = or_parts (has s a) (meet t s) m in ⊎_elim
     (λ e. unmet t s c p.1 e)
     (or_cases (eqb a c) (has t c) h)
 
-abbrev held : List (List ℕ) → ℕ → Bool
+abbrev pub held : List (List ℕ) → ℕ → Bool
 held [] c = false
 held (t ∷ ts) c = has t c || held ts c
 
-unheld : (t : List ℕ) (ts : List (List ℕ)) (c : ℕ) → meets_any t ts ≡ false → has t c ≡ true → held ts c ≡ false
+pub unheld : (t : List ℕ) (ts : List (List ℕ)) (c : ℕ) → meets_any t ts ≡ false → has t c ≡ true → held ts c ≡ false
 unheld t [] c m h = refl
 unheld t (s ∷ ss) c m h = let p = or_parts (meet t s) (meets_any t ss) m in or_from _ _ (unmet t s c p.0 h) (unheld t ss c p.1 h)
 
@@ -98,7 +98,7 @@ inners_within ts h (e ∷ es) d =
 
 -- ---- the comb
 
-meet_at : (t s : List ℕ) → meet t s ≡ true → (x : ℕ) × ((has t x ≡ true) × (has s x ≡ true))
+pub meet_at : (t s : List ℕ) → meet t s ≡ true → (x : ℕ) × ((has t x ≡ true) × (has s x ≡ true))
 meet_at [] s h = cc
 meet_at (c ∷ cs) s h = ⊎_elim
     (λ e. (c, (or_left _ _ (eq-eqb c c refl), e)))

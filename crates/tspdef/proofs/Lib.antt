@@ -7,3 +7,4 @@ pub mod Covering
 pub mod Roots
 pub mod RayLemmas
 pub mod CycleLemmas
+pub mod SmallCuts

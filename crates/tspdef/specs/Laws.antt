@@ -1,10 +1,10 @@
 -- The laws that everything rests on.
-use Rattle.std.specs.Prelude.{◌≡◌, ℕ, ◌*◌, ◌%◌, ◌^◌, ◌<◌, ◌≤◌, Bool, false, List, pos, ◌≤ℤ◌, ◌<ℤ◌, Some}
+use Rattle.std.specs.Prelude.{◌≡◌, ℕ, ◌+◌, ◌*◌, ◌%◌, ◌^◌, ◌<◌, ◌≤◌, Bool, false, List, pos, ◌≤ℤ◌, ◌<ℤ◌, Some}
 use Rattle.tspdef.specs.Distances.{Rule, is_enough, root as root_of, IsLeast}
 use Rattle.tspdef.specs.Sets.{has, IsProper}
 use Rattle.tspdef.specs.Tours.{steps, crossings, IsSameCycle, IsCanonicalForm, has_step}
 use Rattle.tspdef.specs.Instances.{Instance, IsTourOf, length_in}
-use Rattle.tspdef.specs.Cuts.{Cut, IsCut, HoldsOf}
+use Rattle.tspdef.specs.Cuts.{Cut, IsCut, HoldsOf, sets_of, right_side, coefficient}
 use Rattle.tspdef.specs.Paths.{Condition, Meets, Obeys, is_decided, IsPair, DecidesAll, root}
 use Rattle.tspdef.specs.Closings.{Closing, Fits, IsClosing}
 use Rattle.tspdef.specs.Bounds.{scale, bound, needed}
@@ -23,6 +23,14 @@ CrossingsAreEven = (i : Instance) (tour s : List ℕ) → IsTourOf i tour → Is
 -- Every tour meets every cut.
 abbrev pub ToursMeetCuts : Type 0
 ToursMeetCuts = (i : Instance) (tour : List ℕ) (c : Cut) → IsTourOf i tour → IsCut i.n c → HoldsOf c tour
+
+-- A cut has no more than n teeth, and its sets have exactly one of two cities three times at most.
+pub record IsSmallCut (n : ℕ) (c : Cut) : Type 0 where
+  pub right : right_side c ≤ 3 * n + 2
+  pub crossed : (u v : ℕ) → coefficient (sets_of c) u v ≤ 3
+
+abbrev pub CutsAreSmall : Type 0
+CutsAreSmall = (n : ℕ) (c : Cut) → IsCut n c → IsSmallCut n c
 
 -- The bound of a closing is at most the length, in units, of each tour that obeys the path.
 abbrev pub BoundIsBelow : Type 0

@@ -3,7 +3,7 @@
 //! laws over them, each the contract of a function here. There is no program code in this crate.
 #![tactic(auto)]
 
-ghost use Rattle.tspdef.specs.Laws.{RootsAreLeast, CrossingsAreEven, ToursMeetCuts, BoundIsBelow, FittingIsClosing, AcceptedIsOptimal, RootCovers, EdgeSplitCovers, CliqueSplitCovers, ClosingCovers, CoveredIsLeast, RaysClose, SameCycleIsSameTour, CanonicalFormExists, CanonicalFormIsOne};
+ghost use Rattle.tspdef.specs.Laws.{RootsAreLeast, CrossingsAreEven, ToursMeetCuts, CutsAreSmall, BoundIsBelow, FittingIsClosing, AcceptedIsOptimal, RootCovers, EdgeSplitCovers, CliqueSplitCovers, ClosingCovers, CoveredIsLeast, RaysClose, SameCycleIsSameTour, CanonicalFormExists, CanonicalFormIsOne};
 
 /// A distance is the least whole number that its rule takes for the squared distance.
 pub fn roots_are_least()
@@ -18,6 +18,11 @@ pub fn crossings_are_even()
 /// Every tour meets every subtour cut and every comb (Grötschel and Padberg).
 pub fn tours_meet_cuts()
     ensures { ToursMeetCuts }
+{}
+
+/// A comb has no more teeth than there are cities, and a pair crosses three sets of a cut at most.
+pub fn cuts_are_small()
+    ensures { CutsAreSmall }
 {}
 
 /// Weak duality: no tour that obeys a path is shorter than the bound of a closing there.

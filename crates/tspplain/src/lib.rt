@@ -1,0 +1,18 @@
+//! The definitions of `tspdef` as plain, slow programs, written to be read: what later bodies are compared with.
+//!
+//! Each public function computes one definition, and its contract is that definition. Recursion goes as the
+//! definition's does. Lengths are in the instance's own unit, duals and bounds in units of 2^-20 of it.
+#![tactic(auto)]
+
+pub mod bounds;
+pub mod closings;
+pub mod cuts;
+pub mod distances;
+pub mod paths;
+pub mod search;
+pub mod sets;
+#[cfg(test)]
+mod tests;
+pub mod tours;
+pub mod trees;
+pub mod values;
