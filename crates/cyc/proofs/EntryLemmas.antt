@@ -12,12 +12,7 @@ use Rattle.tspdef.proofs.Steps.{joins_is}
 use Rattle.cyc.specs.declared.frac.Entry.{Entry}
 use Rattle.cyc.specs.Frac.{value_of, is_listed, IsEntry, ArePairsDistinct, AreEntries}
 use Rattle.cyc.specs.Table.{mark_of, IsTableOf}
-
-or_comm : (x y : Bool) → x || y ≡ y || x
-or_comm true true = refl
-or_comm true false = refl
-or_comm false true = refl
-or_comm false false = refl
+use Rattle.cyc.proofs.ListLemmas.{or_comm}
 
 -- ---- pairs in either order
 
@@ -39,7 +34,7 @@ value_turned [] u v = refl
 value_turned (e ∷ es) u v = rw (joins_turned u v e.u e.v, value_turned es u v) refl
 
 -- the entries are of a pair, whichever way it is named
-listed_same : (es : List Entry) (u v a b : ℕ) → joins u v (a, b) ≡ true → is_listed es u v ≡ is_listed es a b
+pub listed_same : (es : List Entry) (u v a b : ℕ) → joins u v (a, b) ≡ true → is_listed es u v ≡ is_listed es a b
 listed_same es u v a b h = ⊎_elim
     (λ p. rw (sym p.0, sym p.1) refl)
     (λ p. rw (sym p.0, sym p.1) (listed_turned es a b))
@@ -62,7 +57,7 @@ listed-push (f ∷ es) e u v = rw (listed-push es e u v) (or_turn (joins u v (f.
     or_turn false true z = refl
     or_turn false false z = refl
 
-value_unlisted : (es : List Entry) (u v : ℕ) → is_listed es u v ≡ false → value_of es u v ≡ 0
+pub value_unlisted : (es : List Entry) (u v : ℕ) → is_listed es u v ≡ false → value_of es u v ≡ 0
 value_unlisted [] u v h = refl
 value_unlisted (e ∷ es) u v h = let p = or_parts (joins u v (e.u, e.v)) (is_listed es u v) h in cond-false _ _ _ p.0 ∙ value_unlisted es u v p.1
 

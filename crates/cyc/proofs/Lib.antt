@@ -3,3 +3,4 @@ pub mod ListLemmas
 pub mod Turns
 pub mod WholeTours
 pub mod EntryLemmas
+pub mod EntrySums

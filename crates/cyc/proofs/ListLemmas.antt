@@ -13,7 +13,7 @@ pub has-append : (xs ys : List ℕ) (c : ℕ) → has (xs ++ ys) c ≡ has xs c 
 has-append [] ys c = refl
 has-append (x ∷ xs) ys c = ap (λ b. eqb x c || b) (has-append xs ys c) ∙ sym (or_assoc (eqb x c) (has xs c) (has ys c))
 
-or_comm : (x y : Bool) → x || y ≡ y || x
+pub or_comm : (x y : Bool) → x || y ≡ y || x
 or_comm true true = refl
 or_comm true false = refl
 or_comm false true = refl

@@ -5,16 +5,29 @@ ghost use Rattle.cyc.specs.Marks.{AreMarksOf};
 
 use crate::marks::Marks;
 use std::alloc::{AllocError, Global};
+use std::error::Error;
+use std::fmt;
 use std::marker::Model;
 
 /// Why a list of cities is no set.
-#[derive(Clone, Copy, Debug, PartialEq, Eq, Drop)]
+#[derive(Clone, Copy, Debug, PartialEq, Eq)]
 pub enum CitySetError {
     /// The cities do not rise strictly, or one is no city.
     NotRising,
     /// There is no memory.
     NoMemory,
 }
+
+impl fmt::Display for CitySetError {
+    fn fmt<W: fmt::Write>(&self, f: &mut fmt::Formatter<W>) -> fmt::Result {
+        match self {
+            CitySetError::NotRising => write!(f, "the cities do not rise"),
+            CitySetError::NoMemory => write!(f, "out of memory"),
+        }
+    }
+}
+
+impl Error for CitySetError {}
 
 impl From<AllocError> for CitySetError {
     ghost use Rattle.std.specs.Prelude.{◌≡◌};
@@ -40,7 +53,7 @@ impl Model for CitySet {
 
     ghost Value = { Members };
 
-    ghost use Rattle.cyc.specs.Inside.{members_of, IsMarked};
+    ghost use Rattle.cyc.specs.CitySetInside.{members_of, IsMarked};
 
     ghost view = { members_of };
 
@@ -64,7 +77,7 @@ impl CitySet {
 
     /// How many cities there are in all.
     pub fn n(&self) -> u32
-        ensures same { result ≡ self.now.n }
+        ensures value { result ≡ self.now.n }
         ensures many { 3 ≤ result }
         ensures few { result ≤ 2000 }
     {

@@ -1,13 +1,16 @@
 //! Values on pairs of cities.
 ghost use Rattle.std.specs.Prelude.{◌≡◌, ◌≢◌, ℕ, ◌+◌, ◌*◌, ◌^◌, ◌<◌, ◌≤◌, ◌↔◌, min, max, IfOk, IsErrOf, IsOkUnless, IsTrue};
 ghost use Rattle.cyc.specs.Frac.{IsEntry, AreEntries, IsFirstBad, value_of};
+ghost use Rattle.cyc.specs.Laws.{SumsGoByEntries};
 ghost use Rattle.cyc.specs.Table.{IsTableOf};
 
 use std::alloc::{AllocError, Global};
+use std::error::Error;
+use std::fmt;
 use std::marker::Model;
 
 /// The value of the pair of two cities, named in either order.
-#[derive(Clone, Copy, Debug, PartialEq, Eq, Drop)]
+#[derive(Clone, Copy, Debug, PartialEq, Eq)]
 pub struct Entry {
     pub u: u32,
     pub v: u32,
@@ -16,13 +19,24 @@ pub struct Entry {
 }
 
 /// Why some entries are no values on pairs.
-#[derive(Clone, Copy, Debug, PartialEq, Eq, Drop)]
+#[derive(Clone, Copy, Debug, PartialEq, Eq)]
 pub enum FracError {
     /// The first entry, by its place, that is of no pair, of a pair that an entry before it has, or of a value above 2^30.
     BadEntry(u32),
     /// There is no memory.
     NoMemory,
 }
+
+impl fmt::Display for FracError {
+    fn fmt<W: fmt::Write>(&self, f: &mut fmt::Formatter<W>) -> fmt::Result {
+        match self {
+            FracError::BadEntry(place) => write!(f, "entry {place} is bad"),
+            FracError::NoMemory => write!(f, "out of memory"),
+        }
+    }
+}
+
+impl Error for FracError {}
 
 impl From<AllocError> for FracError {
     ghost use Rattle.std.specs.Prelude.{◌≡◌};
@@ -97,6 +111,12 @@ impl Frac {
         self.table[cell_of(self.n, u, v)].saturating_sub(1)
     }
 }
+
+/// A sum over all pairs of cities, of their values times weights, is that over the entries alone.
+#[tactic(auto, using(crate::proofs::EntrySums::sums_by_entries))]
+pub fn sums_go_by_entries()
+    ensures { SumsGoByEntries }
+{}
 
 /// Where the table has a pair.
 #[inline]

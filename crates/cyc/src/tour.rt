@@ -8,16 +8,29 @@ ghost use Rattle.cyc.specs.Tour.{AreApart, IsWhole};
 use crate::city_set::CitySet;
 use crate::marks::Marks;
 use std::alloc::{AllocError, Global};
+use std::error::Error;
+use std::fmt;
 use std::marker::Model;
 
 /// Why a list of cities is no tour.
-#[derive(Clone, Copy, Debug, PartialEq, Eq, Drop)]
+#[derive(Clone, Copy, Debug, PartialEq, Eq)]
 pub enum TourError {
     /// It does not have each city once.
     NotATour,
     /// There is no memory.
     NoMemory,
 }
+
+impl fmt::Display for TourError {
+    fn fmt<W: fmt::Write>(&self, f: &mut fmt::Formatter<W>) -> fmt::Result {
+        match self {
+            TourError::NotATour => write!(f, "the cities are no tour"),
+            TourError::NoMemory => write!(f, "out of memory"),
+        }
+    }
+}
+
+impl Error for TourError {}
 
 impl From<AllocError> for TourError {
     ghost use Rattle.std.specs.Prelude.{◌≡◌};
@@ -74,7 +87,7 @@ impl Tour {
 
     /// How many cities there are.
     pub fn n(&self) -> u32
-        ensures same { result ≡ length self.now }
+        ensures value { result ≡ length self.now }
         ensures many { 3 ≤ result }
         ensures few { result ≤ 2000 }
     {

@@ -13,7 +13,7 @@ mod root;
 pub use point::Point;
 
 /// How distances follow from coordinates.
-#[derive(Clone, Copy, Debug, PartialEq, Eq, Drop)]
+#[derive(Clone, Copy, Debug, PartialEq, Eq)]
 pub enum Kind {
     /// EUC_2D: the root, rounded to the nearest whole number.
     Euc,

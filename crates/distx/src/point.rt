@@ -5,7 +5,7 @@ ghost use Rattle.tspdef.specs.Distances.{squared};
 use std::marker::Model;
 
 /// A point of the plane. Its coordinates are at most 2^24 in size. Contracts see the pair of x and y.
-#[derive(Clone, Copy, Debug, PartialEq, Eq, Drop)]
+#[derive(Clone, Copy, Debug, PartialEq, Eq)]
 pub struct Point {
     x: i32,
     y: i32,
