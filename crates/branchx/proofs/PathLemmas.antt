@@ -1,10 +1,10 @@
 -- Paths: what their conditions are, and how they grow.
-use Rattle.std.proofs.Common.{◌≡◌, ℕ, ◌+◌, ◌<◌, Bool, true, false, ◌||◌, List, [], ◌∷◌, ◌++◌, length, map, take, get_or, refl, sym, ap, subst, ◌∙◌, Some, None}
+use Rattle.std.proofs.Common.{◌≡◌, ℕ, ◌+◌, ◌<◌, Bool, true, false, ◌||◌, List, [], ◌∷◌, ◌++◌, length, take, get_or, refl, sym, ap, subst, ◌∙◌, Some}
 use Rattle.std.specs.List.{All, AllByRecursion}
-use Rattle.std.proofs.lemmas.List.{get_or-map, length-map, append_assoc, map-append, take_more, get_or_read}
+use Rattle.std.proofs.lemmas.List.{get_or-map, length-map, append_assoc, map-append, take_more}
 use Rattle.std.proofs.lemmas.List.Elements.{All-map, All-from_recursion, recursion_from_All}
 use Rattle.tspdef.specs.Tours.{joins}
-use Rattle.tspdef.specs.Paths.{Condition, absent, present, two, four, is_absent, is_present, is_decided, IsPair, MayFollow, ContinuesPath, IsPath, IsApartFrom, IsNew}
+use Rattle.tspdef.specs.Paths.{Condition, absent, present, two, four, is_absent, is_present, is_decided, IsPair, MayFollow, ContinuesPath, IsPath}
 use Rattle.branchx.specs.declared.cond.Cond.{Cond}
 use Rattle.branchx.specs.Cond.{condition_of, conditions_of, pair_of, decides}
 

@@ -1,8 +1,8 @@
 -- Lists of sets of cities: what tests over lists say of them.
-use Rattle.std.proofs.Common.{◌≡◌, ◌≢◌, ℕ, suc, ◌+◌, ◌<◌, ◌≤◌, ◌==◌, Bool, true, false, not, cond, ◌||◌, ◌&&◌, List, [], ◌∷◌, ◌++◌, length, map, take, drop, get_or, set, subst, nat_lt, refl, sym, ap, ◌∙◌, arith, rules, tests, ltb, eqb, ◌↔◌, IsTrue, inl, inr}
+use Rattle.std.proofs.Common.{◌≡◌, ℕ, ◌+◌, ◌<◌, ◌==◌, Bool, true, false, not, ◌||◌, List, [], ◌∷◌, ◌++◌, length, take, drop, get_or, set, subst, nat_lt, refl, sym, ap, ◌∙◌, arith, ltb, ◌↔◌, IsTrue, inl, inr}
 use Rattle.std.specs.List.{list_any, list_all, AllByRecursion, All}
 use Rattle.std.proofs.lemmas.Bool.Decides.{nat_tests}
-use Rattle.std.proofs.lemmas.Bool.{false≢true, true≢false, and_parts, and_from, and_cases, or_cases, or_parts, or_from, or_left, or_right, eq-eqb, ne_eqb, cases_eq, ltb-true, lt-ltb}
+use Rattle.std.proofs.lemmas.Bool.{false≢true, true≢false, and_parts, and_from, or_cases, or_parts, or_from, or_left, or_right, eq-eqb, ne_eqb, cases_eq, ltb-true, lt-ltb}
 use Rattle.std.proofs.lemmas.List.{take_more, get_or-set_same, get_or-set_other, map-append, take-append-drop}
 use Rattle.std.proofs.lemmas.List.Elements.{All-head, All-tail, All-cons, All-nil, All-from_recursion}
 use Rattle.cyc.specs.CitySet.{Members}

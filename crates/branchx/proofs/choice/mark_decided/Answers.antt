@@ -1,6 +1,5 @@
-use Rattle.std.proofs.Common.{◌≡◌, ℕ, ◌+◌, ◌*◌, ◌<◌, true, List, Bool, set, take, sym, ap, subst, ◌∙◌}
-use Rattle.tspdef.specs.Paths.{is_decided}
-use Rattle.branchx.specs.Cond.{condition_of, conditions_of}
+use Rattle.std.proofs.Common.{◌≡◌, ◌+◌, ◌*◌, true, List, Bool, set, sym, ap, ◌∙◌}
+use Rattle.branchx.specs.Cond.{condition_of}
 use Rattle.branchx.specs.Choice.{tabled}
 use Rattle.branchx.proofs.PathLemmas.{pair-at, pair_of-is, decides-pair, decides-none}
 use Rattle.branchx.proofs.TableLemmas.{tabled-next, tabled-kept}

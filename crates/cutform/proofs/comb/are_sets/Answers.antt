@@ -1,4 +1,4 @@
-use Rattle.std.proofs.Common.{◌≡◌, ℕ, ◌<◌, false, length, get_or, refl, sym, ◌∙◌, subst, arith, below_more}
+use Rattle.std.proofs.Common.{ℕ, ◌<◌, length, get_or, refl, sym, ◌∙◌, subst, arith, below_more}
 use Rattle.std.proofs.lemmas.List.{get_or_read}
 use Rattle.std.proofs.lemmas.Bool.{false≢true}
 use Rattle.cyc.specs.CitySet.{Members}

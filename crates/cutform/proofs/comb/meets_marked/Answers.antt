@@ -1,5 +1,4 @@
-use Rattle.std.proofs.Common.{◌≡◌, ◌<◌, length, sym, ◌∙◌, subst}
-use Rattle.std.specs.List.{All}
+use Rattle.std.proofs.Common.{length, sym, ◌∙◌, subst}
 use Rattle.cyc.specs.CitySet.{Members}
 use Rattle.tspdef.specs.Sets.{IsSet}
 use Rattle.cutform.proofs.SetLemmas.{marked-next, apart-next, next-meets_one, rises-all}
