@@ -371,3 +371,56 @@ fn a_read_that_fails_is_told(rt: HostRuntime) -> Result<(), Fail> {
     }
     Ok(())
 }
+
+const LINES: [&str; 10] = [
+    "NAME : square",
+    "TYPE : TSP",
+    "DIMENSION : 4",
+    "EDGE_WEIGHT_TYPE : EUC_2D",
+    "NODE_COORD_SECTION",
+    "1 0 0",
+    "2 0 10",
+    "3 10 10",
+    "4 10 0",
+    "EOF",
+];
+
+/// The square's text with another line in the place of one, which counts from 1.
+fn with_line(alloc: Global, place: usize, line: &str) -> Result<String, AllocError> {
+    let mut text = String::new(alloc);
+    for (before, own) in LINES.iter().enumerate() {
+        text.push_str(if before + 1 == place { line } else { *own })?;
+        text.push_str("\n")?;
+    }
+    Ok(text)
+}
+
+#[test]
+fn the_square_with_one_line_changed(rt: HostRuntime) -> Result<(), Fail> {
+    let alloc = rt.alloc();
+    let square = told(alloc, SQUARE)?;
+    assert!(rt; told(alloc, with_line(alloc, 0, "")?.as_bytes())? == square);
+    assert!(rt; told(alloc, with_line(alloc, 7, "2 0 1.0e1")?.as_bytes())? == square);
+    let rows: [(usize, &str, (u32, u32, u32, u32)); 9] = [
+        (7, "2 0 565.0", (0, 0, 0, 0)),
+        (7, "2 0 565.5", (9, 7, 2, 0)),
+        (7, "2 0 16777217", (9, 7, 3, 0)),
+        (4, "EDGE_WEIGHT_TYPE : GEO", (5, 4, 0, 0)),
+        (3, "DIMENSION : 2", (7, 3, 0, 0)),
+        (3, "DIMENSION : 2001", (7, 3, 0, 0)),
+        (9, "3 10 0", (10, 9, 0, 0)),
+        (3, "TYPE : ATSP", (3, 3, 0, 0)),
+        (3, "NODE_COORD_SECTION", (8, 3, 0, 0)),
+    ];
+    for (place, line, want) in rows {
+        assert_eq!(rt;
+            refused(alloc, with_line(alloc, place, line)?.as_bytes()),
+            want,
+            "{line}"
+        );
+    }
+    let cut =
+        b"NAME : square\nTYPE : TSP\nDIMENSION : 4\nEDGE_WEIGHT_TYPE : EUC_2D\nNODE_COORD_SECTION\n1 0 0\n2 0 10\n";
+    assert_eq!(rt; refused(alloc, cut), (12, 0, 0, 0));
+    Ok(())
+}
