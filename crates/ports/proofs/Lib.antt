@@ -1,2 +1,2 @@
 mod Lists
-mod Transfers
+pub mod Transfers

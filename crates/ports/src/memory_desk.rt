@@ -10,8 +10,8 @@ use crate::{Desk, Failed, Inlet, Outlet, Room};
 use std::alloc::{AllocError, Global};
 
 /// A desk over byte lists. A call fails exactly where a list names its number, or where the room that is left
-/// is too small; a write fails for want of bytes only where none is left. A failed call changes nothing but
-/// the counts. No call allocates.
+/// is too small: each call takes one of the calls that there is room for, and a write fails for want of bytes
+/// only where none is left. A failed call changes nothing but the counts. No call allocates.
 #[derive(Drop)]
 pub struct MemDesk {
     instance: Source,

@@ -12,8 +12,8 @@ use crate::{Failed, Room, SlotCall, SlotEntry, Slots};
 use std::alloc::{AllocError, Global};
 
 /// Slots over byte lists. A call fails exactly where the list names it, by its number among the calls of its
-/// kind or among all, or where the room that is left is too small. A failed call changes no byte. Every call is
-/// put on record for which there is room. No call allocates.
+/// kind or among all, or where the room that is left is too small: each call takes one of the calls that there
+/// is room for, and is put on record there. A failed call changes no byte. No call allocates.
 #[derive(Drop)]
 pub struct MemSlots {
     slot0: Vec<u8>,

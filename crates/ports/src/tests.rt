@@ -204,6 +204,30 @@ fn named_slot_calls_fail(rt: HostRuntime) -> Result<(), Fail> {
 }
 
 #[test]
+fn each_slot_call_can_fail(rt: HostRuntime) -> Result<(), Fail> {
+    for bad in 1..7u64 {
+        let mut slots = MemSlots::new(rt.alloc(), b"abc", b"", &[(SlotCall::Any, bad)], ROOM)?;
+        let mut number = 0u64;
+        for (kind, text) in [
+            (SlotCall::Bind, "p"),
+            (SlotCall::Write, "xyz"),
+            (SlotCall::Sync, ""),
+            (SlotCall::Read, ""),
+            (SlotCall::Write, "xyz"),
+        ] {
+            number = number.saturating_add(1);
+            assert_eq!(rt;
+                call(&mut slots, kind, false, 0, text),
+                number != bad,
+                "{bad}"
+            );
+        }
+        assert_eq!(rt; slots.faults(), u64::from(bad < 6));
+    }
+    Ok(())
+}
+
+#[test]
 fn slots_run_out_of_room(rt: HostRuntime) -> Result<(), Fail> {
     let room = Room {
         bytes: 4,
