@@ -10,3 +10,4 @@ pub mod LengthLemmas
 pub mod PlainLines
 pub mod PlainPoints
 pub mod PlainMatrix
+pub mod HeaderLines

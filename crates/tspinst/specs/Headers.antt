@@ -1,8 +1,8 @@
 -- Lines outside a section: a keyword, at most one colon, and a value, of which the first word counts.
-use Rattle.std.specs.Prelude.{ℕ, ◌==◌, nat_lt, nat_le, if◌then◌else◌, Bool, List, length, drop, Option, Some, None}
-use Rattle.std.specs.List.{before_first, after_first, position_or_len}
+use Rattle.std.specs.Prelude.{ℕ, ◌==◌, ◌||◌, nat_lt, nat_le, if◌then◌else◌, Bool, List, length, drop, Option, Some, None}
+use Rattle.std.specs.List.{before_first, after_first, position_or_len, prefix_len}
 use Rattle.tsplex.specs.Number.{first_is, natural_of}
-use Rattle.tsplex.specs.Text.{word_on}
+use Rattle.tsplex.specs.Text.{is_blank, word_on}
 
 -- a word and the number of its line
 abbrev pub Token : Type 0
@@ -34,3 +34,28 @@ three_or_more (Some n) = (if nat_le 3 n then Some n else None)
 -- a dimension is digits of value 3 to 2000
 abbrev pub dimension_of : List ℕ → Option ℕ
 dimension_of word = three_or_more (natural_of word 2000)
+
+-- ---- the same, of the bytes of a line
+
+-- some bytes without the blanks at their front
+abbrev pub trimmed : List ℕ → List ℕ
+trimmed bytes = drop (prefix_len is_blank bytes) bytes
+
+-- some bytes without a colon at their front
+abbrev pub without_colon : List ℕ → List ℕ
+without_colon bytes = (if first_is 58 bytes then drop 1 bytes else bytes)
+
+abbrev pub ends_keyword : ℕ → Bool
+ends_keyword b = is_blank b || is_colon b
+
+-- leading blanks are dropped, and the keyword runs to the first blank or colon
+abbrev pub line_keyword : List ℕ → List ℕ
+line_keyword line = before_first ends_keyword (trimmed line)
+
+-- after it come blanks, at most one colon, blanks, and the value to the end of the line
+abbrev pub line_value : List ℕ → List ℕ
+line_value line = trimmed (without_colon (trimmed (drop (length (line_keyword line)) (trimmed line))))
+
+-- the first word of a value that begins with no blank
+abbrev pub first_word : List ℕ → List ℕ
+first_word value = before_first is_blank value

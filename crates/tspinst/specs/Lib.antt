@@ -6,5 +6,5 @@ pub mod Sections
 pub mod Texts
 pub mod Views
 pub mod Reads
-pub mod Laws
 pub mod Plain
+pub mod Laws

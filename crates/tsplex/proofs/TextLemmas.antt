@@ -38,7 +38,7 @@ onto_all_is (b ∷ w) line lines = ap (onto_first b) (onto_all_is w line lines)
 abbrev pub IsWord : List ℕ → Type 0
 IsWord w = AllByRecursion (λ b. is_space b ≡ false) w
 
-no_blank : (b : ℕ) → is_space b ≡ false → is_blank b ≡ false
+pub no_blank : (b : ℕ) → is_space b ≡ false → is_blank b ≡ false
 no_blank b e = grind (arith, nat_tests)
 
 no_end : (b : ℕ) → is_space b ≡ false → is_line_end b ≡ false
@@ -53,11 +53,11 @@ in_line [] h = tt
 in_line (b ∷ w) h = (no_blank b h.0, in_line w h.1)
 
 -- a line that is empty or begins with a blank
-abbrev IsOpen : List ℕ → Type 0
+abbrev pub IsOpen : List ℕ → Type 0
 IsOpen [] = Unit {0}
 IsOpen (b ∷ bs) = is_blank b ≡ true
 
-words_front : (b : ℕ) (w line : List ℕ) → IsWord (b ∷ w) → IsOpen line → words ((b ∷ w) ++ line) ≡ (b ∷ w) ∷ words line
+pub words_front : (b : ℕ) (w line : List ℕ) → IsWord (b ∷ w) → IsOpen line → words ((b ∷ w) ++ line) ≡ (b ∷ w) ∷ words line
 words_front b w [] h o = ap words (append-nil (b ∷ w)) ∙ rw (slice_split_none is_blank (b ∷ w) (All-from_recursion (λ x. is_blank x ≡ false) (b ∷ w) (in_line (b ∷ w) h))) refl
 words_front b w (c ∷ line) h o = rw (slice_split_at is_blank (b ∷ w) c line (All-from_recursion (λ x. is_blank x ≡ false) (b ∷ w) (in_line (b ∷ w) h)) o, o) refl
 
