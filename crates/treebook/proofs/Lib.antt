@@ -1,0 +1,5 @@
+pub mod WayLemmas
+pub mod TreeLemmas
+pub mod PlaceLemmas
+pub mod Growing
+pub mod Covering
