@@ -203,7 +203,10 @@ parent_set nodes k s j m = ⊎_elim
     (λ ne. ap (λ (x : Node). x.parent) (get_or-set_other nodes k j (record { parent = parent_at nodes k; state = s }) (open_under 0) ne))
     (cases_eq j k)
 
-closed_grows : (nodes : List Node) (k : ℕ) (c : Closing) → k < length nodes → Grows nodes (closed_at nodes k c) k
+pub closed_length : (nodes : List Node) (k : ℕ) (c : Closing) → length (closed_at nodes k c) ≡ length nodes
+closed_length nodes k c = length-set nodes k (record { parent = parent_at nodes k; state = closed_node c })
+
+pub closed_grows : (nodes : List Node) (k : ℕ) (c : Closing) → k < length nodes → Grows nodes (closed_at nodes k c) k
 closed_grows nodes k c m =
     let len = length-set nodes k (record { parent = parent_at nodes k; state = closed_node c }) in
     record { longer = omega arith; parents = λ j q. parent_set nodes k (closed_node c) j m; states = λ j q ne. state_set_other nodes k (closed_node c) j ne }
@@ -241,7 +244,7 @@ closing_keeps_tables n nodes k c t o f =
 
 -- ---- splitting
 
-split_length : (nodes : List Node) (k : ℕ) (b : Branch) → length (split_at nodes k b) ≡ length nodes + 2
+pub split_length : (nodes : List Node) (k : ℕ) (b : Branch) → length (split_at nodes k b) ≡ length nodes + 2
 split_length nodes k b =
     let len = length-set nodes k (record { parent = parent_at nodes k; state = split_node b (length nodes) }) in
     let both = length-append (with_state nodes k (split_node b (length nodes))) (open_under k ∷ open_under k ∷ []) in
@@ -261,7 +264,7 @@ split_new nodes k b j x y =
     (λ ne. let e : j - length nodes ≡ 1 = omega arith in ap (λ (i : ℕ). get_or (open_under k ∷ open_under k ∷ []) i (open_under 0)) e)
     (cases_eq (j - length nodes) 0)
 
-split_grows : (nodes : List Node) (k : ℕ) (b : Branch) → k < length nodes → Grows nodes (split_at nodes k b) k
+pub split_grows : (nodes : List Node) (k : ℕ) (b : Branch) → k < length nodes → Grows nodes (split_at nodes k b) k
 split_grows nodes k b m =
     let len = split_length nodes k b in
     record {

@@ -3,3 +3,6 @@ pub mod TreeLemmas
 pub mod PlaceLemmas
 pub mod Growing
 pub mod Covering
+pub mod NodeLemmas
+pub mod CountLemmas
+pub mod KeptLemmas

@@ -78,3 +78,8 @@ ClosesFor i l nodes = (k : ℕ) (c : Closing) → k < length nodes → state_at 
 -- A table stands for a sound tree exactly where each closed node's bound exceeds what l needs.
 abbrev pub ClosedTablesAreSound : Type 0
 ClosedTablesAreSound = (i : Instance) (nodes : List Node) (l : ℕ) → IsTable i.n nodes → ClosesFor i l nodes → IsSoundFor i l (tree_of nodes)
+
+-- What a change of a table keeps: that each tour obeys an open leaf or has length l at least, and that the tree is sound for l.
+pub record KeepsTree (i : Instance) (l : ℕ) (nodes more : List Node) : Type 0 where
+  pub covers : Covers i (tree_of nodes) l → Covers i (tree_of more) l
+  pub sound : IsSoundFor i l (tree_of nodes) → IsSoundFor i l (tree_of more)

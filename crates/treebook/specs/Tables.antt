@@ -1,6 +1,6 @@
 -- A search tree as a table: a list of nodes, the root first, each with the number of the node above it and its state.
 -- The two children of a split are two numbers that follow each other.
-use Rattle.std.specs.Prelude.{◌≡◌, ℕ, ◌+◌, ◌<◌, zero, suc, Bool, true, false, cond, ◌==◌, ◌||◌, List, [], ◌∷◌, ◌++◌, length, map, slice_index_or, slice_set}
+use Rattle.std.specs.Prelude.{◌≡◌, ◌≢◌, ℕ, ◌+◌, ◌<◌, ◌≤◌, zero, suc, Bool, true, false, cond, ◌==◌, ◌||◌, List, [], ◌∷◌, ◌++◌, length, map, slice_index_or, slice_set}
 use Rattle.tspdef.specs.Sets.{IsProper}
 use Rattle.tspdef.specs.Paths.{Condition, absent, present, two, four, is_decided, IsPair}
 use Rattle.tspdef.specs.Closings.{Closing, Fits}
@@ -145,6 +145,15 @@ pub record IsTable (n : ℕ) (nodes : List Node) : Type 0 where
 pub record IsOpen (nodes : List Node) (k : ℕ) : Type 0 where
   pub within : k < length nodes
   pub is_open : state_at nodes k ≡ open_node
+
+-- no node from one number on, and before another, is open
+abbrev pub NoneOpen : List Node → ℕ → ℕ → Type 0
+NoneOpen nodes from to = (k : ℕ) → from ≤ k → k < to → state_at nodes k ≢ open_node
+
+-- k is the open node with the least number
+pub record IsLeastOpen (nodes : List Node) (k : ℕ) : Type 0 where
+  pub is_open : IsOpen nodes k
+  pub least : NoneOpen nodes 0 k
 
 -- the table with another state of a node
 abbrev pub with_state : List Node → ℕ → State → List Node

@@ -1,38 +1,16 @@
-//! The search tree as a table of nodes.
+//! The search tree, as a table of nodes.
+//!
+//! - [`Tree`] starts as one open node, the root, and grows as open nodes are closed or split, without memory where it
+//!   has room.
+//! - [`State`] is what a node is.
+//! - [`tables_are_trees`], [`tables_grow`], [`tables_cover`], [`tables_are_sound`]: which tree of the definitions a
+//!   table stands for, and what closing and splitting do to it.
 #![tactic(auto)]
 
-ghost use Rattle.treebook.specs.Laws.{FreshIsTable, PathsArePaths, OpenNodesAreOpenLeaves, ClosingKeepsTables, SplittingKeepsTables, ClosingKeepsCovers, SplittingKeepsCovers, ClosingKeepsSound, SplittingKeepsSound, ClosedTablesAreSound};
+mod laws;
+mod node;
+mod tree;
 
-use tspdef::{bound_is_below, trees_cover};
-
-/// A table of nodes stands for a tree: its open nodes are the open leaves, with their paths.
-pub fn tables_are_trees()
-    ensures fresh { FreshIsTable }
-    ensures paths { PathsArePaths }
-    ensures leaves { OpenNodesAreOpenLeaves }
-{}
-
-/// Closing and splitting an open node change the tree at the node's place alone.
-pub fn tables_grow()
-    ensures closing { ClosingKeepsTables }
-    ensures splitting { SplittingKeepsTables }
-{}
-
-/// Splitting keeps that each tour obeys an open leaf or has length l at least, for each l; closing keeps it where the
-/// bound exceeds what l needs.
-pub fn tables_cover()
-    ensures closing { ClosingKeepsCovers }
-    ensures splitting { SplittingKeepsCovers }
-{
-    bound_is_below();
-    trees_cover();
-}
-
-/// Closing and splitting keep a tree sound, and a table whose closed nodes have bounds that exceed what l needs is sound.
-pub fn tables_are_sound()
-    ensures closing { ClosingKeepsSound }
-    ensures splitting { SplittingKeepsSound }
-    ensures closed { ClosedTablesAreSound }
-{
-    bound_is_below();
-}
+pub use laws::{tables_are_sound, tables_are_trees, tables_cover, tables_grow};
+pub use node::State;
+pub use tree::Tree;

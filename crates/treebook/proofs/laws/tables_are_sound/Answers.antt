@@ -1,5 +1,5 @@
 use Rattle.treebook.proofs.Covering.{closing_keeps_sound, splitting_keeps_sound, closed_tables_are_sound}
-use Rattle.treebook.proofs.tables_are_sound.Goals as goal
+use Rattle.treebook.proofs.laws.tables_are_sound.Goals as goal
 
 pub returns-clause-closing : goal.returns-clause-closing
 returns-clause-closing c = closing_keeps_sound c.bound_is_below.ensures.fitting

@@ -1,5 +1,5 @@
 use Rattle.treebook.proofs.Growing.{closing_keeps_tables, splitting_keeps_tables}
-use Rattle.treebook.proofs.tables_grow.Goals as goal
+use Rattle.treebook.proofs.laws.tables_grow.Goals as goal
 
 pub returns-clause-closing : goal.returns-clause-closing
 returns-clause-closing c = closing_keeps_tables

@@ -1,5 +1,5 @@
 use Rattle.treebook.proofs.TreeLemmas.{paths_are_paths, open_nodes_are_open_leaves}
-use Rattle.treebook.proofs.tables_are_trees.Goals as goal
+use Rattle.treebook.proofs.laws.tables_are_trees.Goals as goal
 
 pub returns-clause-paths : goal.returns-clause-paths
 returns-clause-paths c = paths_are_paths

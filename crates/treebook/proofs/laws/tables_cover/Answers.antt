@@ -1,5 +1,5 @@
 use Rattle.treebook.proofs.Covering.{closing_keeps_covers, splitting_keeps_covers}
-use Rattle.treebook.proofs.tables_cover.Goals as goal
+use Rattle.treebook.proofs.laws.tables_cover.Goals as goal
 
 pub returns-clause-closing : goal.returns-clause-closing
 returns-clause-closing c = closing_keeps_covers c.bound_is_below.ensures.fitting c.trees_cover.ensures.closing
