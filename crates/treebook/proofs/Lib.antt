@@ -6,3 +6,4 @@ pub mod Covering
 pub mod NodeLemmas
 pub mod CountLemmas
 pub mod KeptLemmas
+pub mod WalkLemmas

@@ -117,6 +117,13 @@ pub record IsBelowParent (nodes : List Node) (k : ℕ) : Type 0 where
   pub behind : parent_at nodes k < k
   pub child : is_child (state_at nodes (parent_at nodes k)) k ≡ true
 
+-- what is above a node: its parent, and the condition by which the node differs from it
+pub record IsAbove (nodes : List Node) (k parent : ℕ) (c : Condition) : Type 0 where
+  pub behind : parent < k
+  pub own : c ≡ own_condition nodes k
+  pub way : way nodes k ≡ way nodes parent ++ k ∷ []
+  pub path : path_at nodes k ≡ path_at nodes parent ++ c ∷ []
+
 -- a node with this path may be split by an undecided pair or a proper set
 abbrev pub MaySplit : ℕ → List Condition → Branch → Type 0
 MaySplit n path (on_edge u v) = IsPair n u v × (is_decided path u v ≡ false)

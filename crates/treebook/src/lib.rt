@@ -10,6 +10,7 @@
 mod laws;
 mod node;
 mod tree;
+mod walk;
 
 pub use laws::{tables_are_sound, tables_are_trees, tables_cover, tables_grow};
 pub use node::State;

@@ -1,18 +1,20 @@
 //! The tree.
-ghost use Rattle.std.specs.Prelude.{◌≡◌, ℕ, ◌+◌, ◌-◌, ◌^◌, ◌<◌, ◌≤◌, ◌<ℤ◌, List, [], ◌∷◌, ◌++◌, length, max, vec_len, vec_capacity, IfOk, IfSome, IfNone, OnOk, OnErr};
+ghost use Rattle.std.specs.Prelude.{◌≡◌, ℕ, ◌+◌, ◌-◌, ◌^◌, ◌<◌, ◌≤◌, ◌<ℤ◌, List, [], ◌∷◌, ◌++◌, length, max, vec_len, vec_capacity, IfOk, IfSome, IfNone, MatchOption, OnOk, OnErr};
 ghost use Rattle.tspdef.specs.Instances.{Instance};
+ghost use Rattle.tspdef.specs.Paths.{IsPath};
 ghost use Rattle.tspdef.specs.Closings as closings;
 ghost use Rattle.tspdef.specs.Bounds.{bound, needed};
 ghost use Rattle.tspdef.specs.Trees.{open_leaves, settled};
 ghost use Rattle.treebook.specs.Tables as defs;
-ghost use Rattle.treebook.specs.Tables.{IsTable, IsOpen, NoneOpen, IsLeastOpen, MaySplit, fresh, state_at, path_at, tree_of, with_state, closed_at, split_at};
+ghost use Rattle.treebook.specs.Tables.{IsAbove, IsTable, IsOpen, NoneOpen, IsLeastOpen, MaySplit, fresh, state_at, path_at, tree_of, with_state, closed_at, split_at};
 ghost use Rattle.treebook.specs.Laws.{KeepsTree};
+ghost use Rattle.pricer.specs.Trails.{condition_of};
 ghost use Rattle.treebook.specs.Tree.{Table, branch_of, state_of, node_of, nodes_of, shown};
 
 use crate::laws::{tables_are_sound, tables_cover};
 use crate::node::{Node, NodeState, State};
 use branchx::Branch;
-use pricer::Closing;
+use pricer::{Closing, Step};
 use std::alloc::{AllocError, Global};
 use std::marker::Model;
 
@@ -145,17 +147,33 @@ impl Tree {
     pub fn nodes(&self) -> u32
         ensures number { result ≡ length self.now.nodes }
         ensures counted { open_leaves (tree_of self.now.nodes) + settled (tree_of self.now.nodes) ≡ result }
-        ensures is_table { IsTable self.now.n self.now.nodes }
         ensures few { result + self.now.room < 2 ^ 32 }
     {
         self.nodes.len() as u32
     }
 
-    /// Of how many cities it is.
+    /// Of how many cities it is: the nodes are a table of a tree over so many, and each node has a path.
     pub fn n(&self) -> u32
-        ensures { result ≡ self.now.n }
+        ensures value { result ≡ self.now.n }
+        ensures is_table { IsTable result self.now.nodes }
+        ensures paths { (k : ℕ) → k < length self.now.nodes → IsPath result (path_at self.now.nodes k) }
     {
         self.n
+    }
+
+    /// The number of the node above one, and the condition on the way down from it. None is above the root.
+    pub(crate) fn above(&self, node: u32) -> Option<(u32, Step<'_>)>
+        requires { node < length self.now.nodes }
+        ensures { MatchOption result (node ≡ 0) (λ a. IsAbove self.now.nodes node a.0 (condition_of a.1)) }
+    {
+        if node == 0 {
+            return None;
+        }
+        let parent = self.nodes[node as usize].parent;
+        match self.nodes[parent as usize].state.condition_under(node) {
+            Some(step) => Some((parent, step)),
+            None => None,
+        }
     }
 }
 
