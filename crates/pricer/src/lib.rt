@@ -1,0 +1,12 @@
+//! Closings and their bounds.
+#![tactic(auto)]
+
+mod closing;
+mod fitting;
+mod numbers;
+mod rows;
+mod trail;
+
+pub use closing::{Closing, Report};
+pub use fitting::{Fit, fits, fits_on};
+pub use trail::{Step, Trail};
