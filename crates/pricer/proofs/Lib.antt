@@ -5,3 +5,4 @@ pub mod SetLemmas
 pub mod SumSteps
 pub mod TrailLemmas
 pub mod ListLemmas
+pub mod SpreadLemmas

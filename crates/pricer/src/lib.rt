@@ -5,6 +5,7 @@ mod closing;
 mod fitting;
 mod numbers;
 mod rows;
+mod spread;
 mod trail;
 
 pub use closing::{Closing, Report};
