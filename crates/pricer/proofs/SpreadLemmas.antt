@@ -171,3 +171,14 @@ conds_number_size path x a h all rest c some less sa sr size e =
     let l = within_more (2 ^ 62 * length rest) (2 ^ 62 * 4096) _ (omega arith) (held_conds_size path rest h c sr) in
     let r = within_more (2 ^ 62 * length all) (2 ^ 62 * 4096) _ (omega arith) (held_conds_size path all h c sa) in
     within_more _ (2 ^ 99) x (omega arith) (number_size (2 ^ 97) (2 ^ 62 * 4096) x a _ _ e l r size)
+
+-- ---- sums over conditions, the last one first
+
+-- a sum over rows, one condition less being left
+pub sum_last : (f : List Row → ℤ) → f [] ≡ pos 0 → ((row : Row) (rows : List Row) → f (row ∷ rows) ≡ f rows +ℤ f (row ∷ [])) → (path : List Condition) (x y t : ℤ) (o : Option Condition) (rest more : List (ℕ × ℕ)) (q : ℕ × ℕ)
+    → rest ≡ more ++ q ∷ [] → o ≡ condition_at path q.0 → x +ℤ f (condition_rows path rest) ≡ t → y ≡ f (condition_row o q.1 ∷ []) → x +ℤ y +ℤ f (condition_rows path more) ≡ t
+sum_last f nil add path x y t o rest more q e is so_far one =
+    let before = rw e at so_far in
+    let now = rw is at one in
+    let last = rows_last f nil add path more q in
+    omega (arith, ints)

@@ -2,6 +2,7 @@
 #![tactic(auto)]
 
 mod closing;
+mod duals;
 mod fitting;
 mod numbers;
 mod rows;
