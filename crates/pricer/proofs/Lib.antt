@@ -1,8 +1,9 @@
-pub mod Holding
-pub mod Decided
+pub mod HoldingLemmas
+pub mod DecidedLemmas
 pub mod SizeLemmas
 pub mod SetLemmas
 pub mod SumSteps
 pub mod TrailLemmas
 pub mod ListLemmas
 pub mod SpreadLemmas
+pub mod RowLemmas

@@ -5,7 +5,8 @@ use Rattle.std.specs.Int.{int_min}
 use Rattle.tspdef.specs.Sets.{has}
 use Rattle.tspdef.specs.Paths.{Condition, absent, present, two, four}
 use Rattle.tspdef.specs.Closings.{Closing}
-use Rattle.tspdef.specs.Bounds.{Row, at_least, exactly, scale, cut_rows, condition_rows, city_dual}
+use Rattle.tspdef.specs.Sums.{sum_pairs}
+use Rattle.tspdef.specs.Bounds.{Row, at_least, exactly, scale, cut_rows, condition_rows, city_dual, pair_term}
 
 -- a set counts: always, or where it holds a city
 abbrev pub is_counted : Option ℕ → List ℕ → Bool
@@ -54,3 +55,7 @@ at xs c = slice_index_or xs c (pos 0)
 -- a pair's distance, in units, less the numbers at its cities, and twice a number of its own
 abbrev pub cost_of : ℕ → ℤ → ℤ → ℤ → ℤ
 cost_of d a b own = pos (scale * d) -ℤ a -ℤ b +ℤ own +ℤ own
+
+-- the sum over all pairs of what they add to the bound
+abbrev pub terms : ℕ → (ℕ → ℕ → ℤ) → List Condition → ℤ
+terms n r path = sum_pairs (pair_term path r) n

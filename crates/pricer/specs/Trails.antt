@@ -1,7 +1,7 @@
 -- The way up from a node of the tree to the root.
 use Rattle.std.specs.Prelude.{◌≡◌, ℕ, List, length, take, Option, Some, None}
 use Rattle.tspdef.specs.Sets.{IsProper}
-use Rattle.tspdef.specs.Paths.{Condition, absent, present, two, four}
+use Rattle.tspdef.specs.Paths.{Condition, absent, present, two, four, IsPair}
 use Rattle.pricer.specs.declared.trail.Step.{Step}
 use Rattle.pricer.specs.declared.trail.Step.TheVariants.{Absent, Present, Two, Four}
 
@@ -23,3 +23,10 @@ HasProperSet n (Some (four s)) = IsProper n s
 HasProperSet n (Some (absent u v)) = Unit {0}
 HasProperSet n (Some (present u v)) = Unit {0}
 HasProperSet n None = Unit {0}
+
+-- if it is a condition on a pair, the pair is one of n cities, the lower city first
+abbrev pub IsPairBelow : ℕ → Condition → Type 0
+IsPairBelow n (absent u v) = IsPair n u v
+IsPairBelow n (present u v) = IsPair n u v
+IsPairBelow n (two s) = Unit {0}
+IsPairBelow n (four s) = Unit {0}

@@ -1,7 +1,9 @@
 //! Closings and their bounds.
 #![tactic(auto)]
 
+mod bounds;
 mod closing;
+mod decided;
 mod duals;
 mod fitting;
 mod numbers;
@@ -9,6 +11,7 @@ mod rows;
 mod spread;
 mod trail;
 
+pub use bounds::{bound, bound_on, needed};
 pub use closing::{Closing, Report};
 pub use fitting::{Fit, fits, fits_on};
 pub use trail::{Step, Trail};

@@ -1,6 +1,6 @@
 //! Sums of numbers that are far from the limits of their type.
 
-ghost use Rattle.std.specs.Prelude.{◌≡◌, ◌*◌, ◌^◌, ◌≤◌, pos, neg_ℤ, ◌+ℤ◌, ◌-ℤ◌, ◌≤ℤ◌};
+ghost use Rattle.std.specs.Prelude.{◌≡◌, ℕ, ◌+◌, ◌*◌, ◌^◌, ◌≤◌, pos, neg_ℤ, ◌+ℤ◌, ◌-ℤ◌, ◌≤ℤ◌};
 ghost use Rattle.std.specs.Int.{int_min};
 ghost use Rattle.tspdef.specs.Bounds.{scale};
 ghost use Rattle.pricer.specs.Sizes.{IsWithin};
@@ -19,7 +19,7 @@ pub fn signed(x: u128) -> i128
 
 /// A pair's distance, in units, less the numbers at its cities.
 #[inline]
-fn less(d: u32, a: i128, b: i128) -> i128
+pub fn less(d: u32, a: i128, b: i128) -> i128
     requires a { IsWithin (2 ^ 100) a }
     requires b { IsWithin (2 ^ 100) b }
     ensures value { result ≡ pos (scale * d) -ℤ a -ℤ b }
@@ -48,4 +48,25 @@ pub fn below_zero(x: i128) -> u128
     ensures size { result ≤ 2 ^ 103 }
 {
     if x < 0 { x.unsigned_abs() } else { 0 }
+}
+
+/// A cost less what the duals of sets take off it.
+pub fn less_sets(cost: i128, cuts: i128, cliques: i128) -> i128
+    requires cost { IsWithin (2 ^ 102) cost }
+    requires cuts { IsWithin (2 ^ 80) cuts }
+    requires cliques { IsWithin (2 ^ 80) cliques }
+    ensures value { result ≡ cost -ℤ cuts -ℤ cliques }
+    ensures size { IsWithin (2 ^ 103) result }
+{
+    cost - cuts - cliques
+}
+
+/// The sum of two numbers.
+pub fn plus(a: i128, b: i128) -> i128
+    requires a { IsWithin (2 ^ 120) a }
+    requires b { IsWithin (2 ^ 120) b }
+    ensures value { result ≡ a +ℤ b }
+    ensures size { (m n : ℕ) → IsWithin m a → IsWithin n b → IsWithin (m + n) result }
+{
+    a + b
 }

@@ -1,4 +1,4 @@
-use Rattle.std.proofs.Common.{◌≡◌, ℕ, ◌<◌, Bool, true, false, cond, ◌||◌, List, [], ◌∷◌, ◌++◌, refl, sym, ◌∙◌, ap, subst, arith, ⊎_elim}
+use Rattle.std.proofs.Common.{◌≡◌, ℕ, ◌^◌, ◌<◌, Bool, true, false, cond, ◌||◌, List, [], ◌∷◌, ◌++◌, refl, sym, ◌∙◌, ap, subst, arith, ⊎_elim}
 use Rattle.std.specs.Prelude.{ℤ, pos, neg_ℤ, ◌+ℤ◌, ◌-ℤ◌, min, max}
 use Rattle.std.specs.Int.{int_min}
 use Rattle.std.proofs.lemmas.Int.{ints, clamps}
@@ -8,10 +8,15 @@ use Rattle.std.proofs.lemmas.List.{append-nil, append_assoc}
 use Rattle.tspdef.specs.Tours.{joins}
 use Rattle.tspdef.specs.Paths.{Condition, absent, present, two, four, is_absent, is_present, is_decided, IsPair, MayFollow, ContinuesPath, IsPath}
 use Rattle.tspdef.specs.Sums.{sum_pairs}
-use Rattle.tspdef.specs.Bounds.{pair_term}
+use Rattle.tspdef.specs.Bounds.{pair_term, reduced_cost}
 use Rattle.tspdef.proofs.SumLemmas.{sum_pairs-same, sum_pairs-add, sum_pairs-at}
 use Rattle.tspdef.proofs.Steps.{joins_is}
-use Rattle.pricer.specs.Prices.{change_of}
+use Rattle.tspdef.specs.Instances.{Instance, IsInstance}
+use Rattle.tspdef.specs.Closings.{Closing, IsClosing}
+use Rattle.pricer.specs.Sizes.{IsWithin}
+use Rattle.pricer.specs.Trails.{IsPairBelow}
+use Rattle.pricer.specs.Prices.{change_of, terms}
+use Rattle.pricer.proofs.SizeLemmas.{reduced_cost_size, terms_size}
 
 -- ---- paths without their last condition
 
@@ -136,3 +141,27 @@ terms_more n r path (four s) h =
     sum_pairs-same (pair_term (path ++ four s ∷ []) r) (pair_term path r) n (λ u v q l.
     rw (is_absent-append path (four s ∷ []) u v, is_present-append path (four s ∷ []) u v)
     (rw (or-false (is_absent path u v), or-false (is_present path u v)) refl)) ∙ omega (arith, ints)
+
+pub pair_follows : (n : ℕ) (path : List Condition) (c : Condition) → MayFollow n path c → IsPairBelow n c
+pair_follows n path (absent a b) h = h.0
+pair_follows n path (present a b) h = h.0
+pair_follows n path (two s) h = tt
+pair_follows n path (four s) h = tt
+
+-- a part of what a path changes in the sum over all pairs
+pub changes_size : (i : Instance) (path : List Condition) (c : Closing) (x : ℤ) (p q : List Condition) → IsInstance i → IsClosing i.n path c
+    → x +ℤ terms i.n (reduced_cost i path c) p ≡ terms i.n (reduced_cost i path c) q → IsWithin (2 ^ 101) x
+changes_size i path c x p q is h e =
+    let size = λ (u v : ℕ). reduced_cost_size i path c u v is h in
+    let a = terms_size (reduced_cost i path c) (2 ^ 77) i.n p is.few size in
+    let b = terms_size (reduced_cost i path c) (2 ^ 77) i.n q is.few size in
+    record { low = omega (arith, ints); high = omega (arith, ints) }
+
+-- one condition less is left
+pub changes_step : (n : ℕ) (r : ℕ → ℕ → ℤ) (x y t : ℤ) (here before : List Condition) (c : Condition) → here ≡ before ++ c ∷ [] → IsPath n here
+    → x +ℤ terms n r here ≡ t → y ≡ change_of r c → (x +ℤ y) +ℤ terms n r before ≡ t
+changes_step n r x y t here before c e is so_far change =
+    let path = path_front n before c (subst (λ (p : List Condition). IsPath n p) e is) in
+    let more = terms_more n r before c path.1 in
+    let same : terms n r here ≡ terms n r (before ++ c ∷ []) = ap (terms n r) e in
+    omega (arith, ints)
