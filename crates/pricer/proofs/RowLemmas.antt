@@ -52,7 +52,7 @@ pub row_sum : (i : Instance) (path : List Condition) (c : Closing) (price own : 
     → ((k : ℕ) → at price k ≡ price_of path c k) → ((k : ℕ) → at own k ≡ shared_by path c v k)
     → sum_below (λ u. int_min (pos 0) (cost_of (dist i v u) (at price v) (at price u) (at own u))) v ≡ sum_below (λ u. int_min (pos 0) (reduced_cost i path c u v)) v
 row_sum i path c price own v p s = sum_below-same _ _ v (λ u l. ap (int_min (pos 0)) (
-  ap (λ (x : ℤ). cost_of (dist i v u) x (at price u) (at own u)) (p v)
-  ∙ ap (λ (x : ℤ). cost_of (dist i v u) (price_of path c v) x (at own u)) (p u)
-  ∙ ap (λ (x : ℤ). cost_of (dist i v u) (price_of path c v) (price_of path c u) x) (s u)
-  ∙ reduced_split i path c u v))
+    ap (λ (x : ℤ). cost_of (dist i v u) x (at price u) (at own u)) (p v)
+    ∙ ap (λ (x : ℤ). cost_of (dist i v u) (price_of path c v) x (at own u)) (p u)
+    ∙ ap (λ (x : ℤ). cost_of (dist i v u) (price_of path c v) (price_of path c u) x) (s u)
+    ∙ reduced_split i path c u v))

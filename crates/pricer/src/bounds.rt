@@ -19,7 +19,7 @@ ghost use Rattle.pricer.specs.Prices.{at, price_of, shared_by, terms};
 use crate::closing::Closing;
 use crate::decided::changes;
 use crate::duals::{city_sum, cliques_worth, cuts_worth};
-use crate::numbers::{SCALE, plus, signed};
+use crate::numbers::{SCALE, signed};
 use crate::rows::row_loss;
 use crate::spread::{spread_cliques, spread_cuts};
 use crate::trail::{Front, Trail};
@@ -62,8 +62,25 @@ pub fn bound_on<'a, T: Trail<'a>>(instance: &Instance, trail: T, closing: &Closi
     bound_is_below();
     let worth = worth(instance.n(), trail, closing);
     let changes = changes(instance, trail, closing);
-    let losses = signed(losses(instance, trail, closing));
-    worth + changes - losses
+    balance(worth, changes, losses(instance, trail, closing))
+}
+
+/// What the duals and the decided pairs add, less what all pairs lose.
+fn balance(worth: i128, changes: i128, losses: u128) -> i128
+    requires worth { IsWithin (2 ^ 89) worth }
+    requires changes { IsWithin (2 ^ 101) changes }
+    requires losses { losses ≤ 2 ^ 125 }
+    ensures { result ≡ worth +ℤ changes -ℤ pos losses }
+{
+    worth + changes - signed(losses)
+}
+
+/// A number for each city, 0 at first.
+fn zeros() -> [i128; CITIES]
+    ensures long { length result ≡ 2000 }
+    ensures empty { (c : ℕ) → at result c ≡ pos 0 }
+{
+    [0; CITIES]
 }
 
 /// What the duals alone add to the bound.
@@ -82,12 +99,13 @@ fn worth<'a, T: Trail<'a>>(n: u32, trail: T, closing: &Closing) -> i128
 
 /// How far all pairs are below 0, as if none were decided.
 fn losses<'a, T: Trail<'a>>(instance: &Instance, trail: T, closing: &Closing) -> u128
+    requires few { instance.now.n ≤ 2000 }
     requires cities { T.cities trail ≡ instance.now.n }
     requires closing { IsClosing instance.now.n (T.conditions trail) closing.now }
     ensures value { neg_ℤ (pos result) ≡ terms instance.now.n (defs.reduced_cost instance.now (T.conditions trail) closing.now) [] }
     ensures size { result ≤ 2 ^ 125 }
 {
-    let mut price = [0; CITIES];
+    let mut price = zeros();
     lay_prices(instance, trail, closing, &mut price);
     rows(instance, trail, closing, &price)
 }
@@ -123,12 +141,7 @@ fn lay_duals(price: &mut [i128], city: &[i64])
 }
 
 /// How far the pairs of all cities are below 0.
-fn rows<'a, T: Trail<'a>>(
-    instance: &Instance,
-    trail: T,
-    closing: &Closing,
-    price: &[i128],
-) -> u128
+fn rows<'a, T: Trail<'a>>(instance: &Instance, trail: T, closing: &Closing, price: &[i128]) -> u128
     requires cities { T.cities trail ≡ instance.now.n }
     requires closing { IsClosing instance.now.n (T.conditions trail) closing.now }
     requires long { instance.now.n ≤ length price.now }
@@ -152,6 +165,7 @@ fn row<'a, T: Trail<'a>>(
     v: u32,
 ) -> u128
     requires cities { T.cities trail ≡ instance.now.n }
+    requires few { instance.now.n ≤ 2000 }
     requires closing { IsClosing instance.now.n (T.conditions trail) closing.now }
     requires long { instance.now.n ≤ length price.now }
     requires price { (c : ℕ) → at price.now c ≡ price_of (T.conditions trail) closing.now c }
@@ -159,7 +173,7 @@ fn row<'a, T: Trail<'a>>(
     ensures value { neg_ℤ (pos result) ≡ sum_below (λ u. int_min (pos 0) (defs.reduced_cost instance.now (T.conditions trail) closing.now u v)) v }
     ensures size { result ≤ 2 ^ 103 * 2000 }
 {
-    let mut shared = [0; CITIES];
+    let mut shared = zeros();
     lay_shared(instance, trail, closing, &mut shared, v);
     row_loss(instance, v, price[v as usize], price, &shared)
 }

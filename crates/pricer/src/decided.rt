@@ -29,7 +29,11 @@ fn reduced_cost<'a, T: Trail<'a>>(
     ensures size { IsWithin (2 ^ 103) result }
 {
     let n = instance.n();
-    let cost = less(instance.d(u, v), city_dual(closing, u), city_dual(closing, v));
+    let cost = less(
+        instance.d(u, v),
+        city_dual(closing, u),
+        city_dual(closing, v),
+    );
     let cuts = signed(cuts_price(n, closing.cuts(), u, v));
     let cliques = cliques_price(trail, closing.conds(), u, v);
     less_sets(cost, cuts, cliques)
