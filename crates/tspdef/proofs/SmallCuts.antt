@@ -1,10 +1,10 @@
-use Rattle.std.proofs.Common.{◌≡◌, ℕ, zero, suc, ◌+◌, ◌*◌, ◌<◌, ◌≤◌, Bool, true, false, cond, eqb, ◌||◌, not, List, [], ◌∷◌, length, refl, sym, subst, arith, ⊎_elim}
-use Rattle.std.specs.Prelude.{ℤ, pos, ◌+ℤ◌, ◌≤ℤ◌}
+use Rattle.std.proofs.Common.{◌≡◌, ℕ, zero, suc, ◌+◌, ◌≤◌, Bool, true, false, cond, eqb, not, List, [], ◌∷◌, length, refl, subst, arith, ⊎_elim}
+use Rattle.std.specs.Prelude.{pos, ◌+ℤ◌, ◌≤ℤ◌}
 use Rattle.std.specs.List.{AllByRecursion}
 use Rattle.std.proofs.lemmas.Int.{ints}
 use Rattle.std.proofs.lemmas.Bool.{cases_Bool, or_parts, eqb-true, cond-true, cond-false}
 use Rattle.tspdef.specs.Sets.{has, AreDisjoint}
-use Rattle.tspdef.specs.Cuts.{Cut, subtour, comb, IsTooth, IsComb, IsCut, coefficient}
+use Rattle.tspdef.specs.Cuts.{subtour, comb, IsTooth, IsComb, coefficient}
 use Rattle.tspdef.specs.Sums.{sum_below}
 use Rattle.tspdef.specs.Laws.{CutsAreSmall}
 use Rattle.tspdef.proofs.SumLemmas.{sum_below-same, sum_below-le, sum_below-add, sum_below-at, sum_below-zero}
@@ -81,9 +81,9 @@ cuts_are_small n (subtour m s) k = record { right = omega arith; crossed = λ u 
 cuts_are_small n (comb m h ts) k = record {
   right = (let f = few_teeth n h ts k.1 in omega arith);
   crossed = λ u v.
-    let o = one_most (has h u) (has h v) in
-    let c = coefficient_le ts u v in
-    let a = one_holds ts u k.1.disjoint in
-    let b = one_holds ts v k.1.disjoint in
-    omega arith;
+      let o = one_most (has h u) (has h v) in
+      let c = coefficient_le ts u v in
+      let a = one_holds ts u k.1.disjoint in
+      let b = one_holds ts v k.1.disjoint in
+      omega arith;
 }

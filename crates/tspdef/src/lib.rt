@@ -23,8 +23,7 @@ pub fn tours_meet_cuts()
 /// A comb has no more teeth than there are cities, and a pair crosses three sets of a cut at most.
 pub fn cuts_are_small()
     ensures { CutsAreSmall }
-{
-}
+{}
 
 /// Weak duality: no tour that obeys a path is shorter than the bound of a closing there.
 pub fn bound_is_below()

@@ -1,8 +1,8 @@
 use Rattle.std.proofs.Common.{arith}
 use Rattle.std.proofs.lemmas.Int.{ints}
-use Rattle.tspdef.specs.Bounds.{pair_term, reduced_cost, city_dual}
-use Rattle.tspplain.specs.Values.{instance_of, path_of, closing_of}
-use Rattle.tspplain.proofs.Steps.{sum_below_more, sum_pairs_more}
+use Rattle.tspdef.specs.Bounds.{city_dual}
+use Rattle.tspplain.specs.Values.{closing_of}
+use Rattle.tspplain.proofs.Steps.{sum_below_more}
 use Rattle.tspplain.proofs.bounds.city_sum.Goals as goal
 
 pub loop-city-preserved : goal.loop-city-preserved

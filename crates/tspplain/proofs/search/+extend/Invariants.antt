@@ -1,4 +1,4 @@
-use Rattle.std.proofs.Common.{◌≡◌, ℕ, ◌-◌, ◌<◌, ◌≤◌, List, ◌∷◌, ◌++◌, length, vec_len}
+use Rattle.std.proofs.Common.{◌≡◌, ℕ, ◌-◌, ◌<◌, List, ◌∷◌, ◌++◌, vec_len}
 use Rattle.tspdef.specs.Instances.{IsTourOf}
 use Rattle.tspplain.specs.Values.{instance_of}
 use Rattle.tspplain.specs.Searches.{IsTourIfAny, IsNoLonger, Improves}

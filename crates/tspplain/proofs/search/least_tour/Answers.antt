@@ -1,4 +1,4 @@
-use Rattle.std.proofs.Common.{subst, List, ℕ}
+use Rattle.std.proofs.Common.{subst}
 use Rattle.tspplain.specs.Values.{instance_of}
 use Rattle.tspplain.specs.Searches.{IsBestFrom}
 use Rattle.tspplain.proofs.search.least_tour.Goals as goal

@@ -1,0 +1,3 @@
+pub mod SetLemmas
+pub mod CombLemmas
+pub mod OrderLemmas

@@ -1,0 +1,254 @@
+//! A cut as one value, with its order and its hash.
+ghost use Rattle.std.specs.Prelude.{◌≡◌, ℕ, ◌≤◌, ◌↔◌, List, fold, IsTrue, IfOk, OnOk, IfErr, IsErrOf, IsOkUnless};
+ghost use Rattle.std.specs.Ordering.{nat_cmp, eq_by_cmp, as_partial_cmp};
+ghost use Rattle.std.specs.Cmp.Lexicographic.{slice_cmp};
+ghost use Rattle.std.specs.Hash as fed;
+ghost use Rattle.tspdef.specs.Sets.{IsProper};
+ghost use Rattle.tspdef.specs.Cuts.{subtour, comb, cities_of, sets_of, right_side, coefficient, IsComb, IsCut, HoldsOf, cut_cmp};
+ghost use Rattle.tspdef.specs.Instances.{Instance, IsTourOf};
+ghost use Rattle.cutform.specs.Combs.{IsDefect};
+ghost use Rattle.cutform.specs.Cut.{cities_of_each, kind_of};
+
+use crate::comb;
+use crate::error::CutError;
+use cyc::CitySet;
+use std::alloc::{AllocError, Global};
+use std::cmp::Ordering;
+use std::hash::{Hash, Hasher};
+use std::marker::Model;
+
+/// What a cut is.
+#[derive(Clone, Copy, Debug, PartialEq, Eq)]
+pub enum Kind {
+    /// One set (Dantzig, Fulkerson and Johnson 1954).
+    Subtour,
+    /// A handle and its teeth (Grötschel and Padberg 1979).
+    Comb,
+}
+
+/// A cut of n cities. Contracts see its kind, n and its sets as one value, and equal cuts are one value.
+#[derive(Debug, Drop)]
+pub struct Cut {
+    kind: Kind,
+    n: u32,
+    // a comb's handle, then its teeth
+    sets: Vec<CitySet>,
+}
+
+impl Model for Cut {
+    ghost use Rattle.tspdef.specs.Cuts as cuts;
+    ghost use Rattle.cutform.specs.Cut.{cities_of_each, cut_of, MakeCut};
+
+    ghost Value = { cuts.Cut };
+
+    ghost view = { λ c. cut_of c.kind c.n (cities_of_each c.sets.items) };
+
+    ghost invariant = { λ c. MakeCut c.kind c.n (cities_of_each c.sets.items) };
+}
+
+impl Cut {
+    /// The subtour cut of a set.
+    pub fn subtour(alloc: Global, set: CitySet) -> Result<Cut, CutError>
+        ensures made { IfOk result (λ c. c ≡ subtour set.n set.cities) }
+        ensures proper { OnOk result (IsProper set.n set.cities) }
+        ensures complete { IsProper set.n set.cities → IsOkUnless result CutError.NoMemory }
+        ensures refused { (IsErrOf result CutError.NotProper) ↔ (¬ IsProper set.n set.cities) }
+    {
+        if !set.is_proper() {
+            return Err(CutError::NotProper);
+        }
+        let n = set.n();
+        let mut sets = Vec::new(alloc);
+        sets.push(set)?;
+        Ok(Cut {
+            kind: Kind::Subtour,
+            n,
+            sets,
+        })
+    }
+
+    /// The comb of a handle and its teeth.
+    pub fn comb(alloc: Global, handle: CitySet, teeth: Vec<CitySet>) -> Result<Cut, CutError>
+        ensures made { IfOk result (λ c. c ≡ comb handle.n handle.cities (cities_of_each teeth.items)) }
+        ensures is_comb { OnOk result (IsComb handle.n handle.cities (cities_of_each teeth.items)) }
+        ensures complete { IsComb handle.n handle.cities (cities_of_each teeth.items) → IsOkUnless result CutError.NoMemory }
+        ensures refused { IfErr result (IsDefect handle.n handle.cities (cities_of_each teeth.items)) }
+    {
+        comb::check(alloc, &handle, &teeth)?;
+        let n = handle.n();
+        let mut sets = teeth;
+        sets.insert(0, handle)?;
+        Ok(Cut {
+            kind: Kind::Comb,
+            n,
+            sets,
+        })
+    }
+
+    /// An equal cut.
+    pub fn copy(&self, alloc: Global) -> Result<Cut, AllocError>
+        ensures { IfOk result (λ c. c ≡ self.now) }
+    {
+        Ok(Cut {
+            kind: self.kind,
+            n: self.n,
+            sets: copy_sets(alloc, &self.sets)?,
+        })
+    }
+
+    /// Of how many cities it is a cut.
+    pub fn n(&self) -> u32
+        ensures value { result ≡ cities_of self.now }
+        ensures many { 3 ≤ result }
+        ensures few { result ≤ 2000 }
+        ensures is_cut { IsCut result self.now }
+    {
+        self.n
+    }
+
+    /// Which kind of cut it is.
+    pub fn kind(&self) -> Kind
+        ensures { result ≡ kind_of self.now }
+    {
+        self.kind
+    }
+
+    /// Its sets; a comb's handle, then its teeth in their order.
+    pub fn sets(&self) -> &[CitySet]
+        ensures { cities_of_each result.now ≡ sets_of self.now }
+    {
+        &self.sets
+    }
+
+    /// What the crossings of its sets by a tour add up to at least.
+    pub fn rhs(&self) -> u32
+        ensures value { result ≡ right_side self.now }
+        ensures met { (i : Instance) (tour : List ℕ) → i.n ≡ cities_of self.now → IsTourOf i tour → HoldsOf self.now tour }
+    {
+        match self.kind {
+            Kind::Subtour => 2,
+            Kind::Comb => 3 * (self.sets.len() as u32 - 1) + 1,
+        }
+    }
+
+    /// How many of its sets have exactly one of u and v: 3 at most.
+    pub fn coef(&self, u: u32, v: u32) -> u32
+        ensures value { result ≡ coefficient (sets_of self.now) u v }
+        ensures bound { result ≤ 3 }
+    {
+        let mut count = 0;
+        for set in &self.sets {
+            if set.contains(u) != set.contains(v) {
+                count += 1;
+            }
+        }
+        count
+    }
+}
+
+/// Equality is that of the value: of kind, n and the sets in their order.
+impl PartialEq for Cut {
+    ghost use Rattle.std.specs.Cmp.{partial_equiv_from_equiv};
+    ghost use Rattle.cutform.specs.Order.{equal_cuts};
+
+    ghost eq = { eq_by_cmp cut_cmp };
+
+    ghost laws = { partial_equiv_from_equiv equal_cuts };
+
+    fn eq(&self, other: &Self) -> bool
+        ensures eq { result ≡ eq_by_cmp cut_cmp self.now other.now }
+        ensures same { IsTrue result ↔ (self.now ≡ other.now) }
+    {
+        self.cmp(other).is_eq()
+    }
+}
+
+impl Eq for Cut {
+    ghost use Rattle.cutform.specs.Order.{equal_cuts};
+
+    ghost laws = { equal_cuts };
+}
+
+impl PartialOrd for Cut {
+    ghost use Rattle.cutform.specs.Order.{partly_ordered_cuts};
+
+    ghost partial_cmp = { as_partial_cmp cut_cmp };
+
+    ghost laws = { partly_ordered_cuts };
+
+    fn partial_cmp(&self, other: &Self) -> Option<Ordering> {
+        Some(self.cmp(other))
+    }
+}
+
+/// Subtour cuts come before combs; cuts of one kind go by their sets, one after the other, and then by n.
+impl Ord for Cut {
+    ghost use Rattle.std.specs.Prelude.{refl};
+    ghost use Rattle.cutform.specs.Order.{ordered_cuts};
+
+    ghost cmp = { cut_cmp };
+
+    ghost total = { ordered_cuts };
+
+    ghost matches_partial_cmp = { λ _ _. refl };
+
+    ghost matches_eq = { λ _ _. refl };
+
+    fn cmp(&self, other: &Self) -> Ordering {
+        match (self.kind, other.kind) {
+            (Kind::Subtour, Kind::Comb) => Ordering::Less,
+            (Kind::Comb, Kind::Subtour) => Ordering::Greater,
+            _ => compare_sets(&self.sets, &other.sets).then(self.n.cmp(&other.n)),
+        }
+    }
+}
+
+impl Hash for Cut {
+    ghost use Rattle.cutform.specs.Order.{hash_input_of, equal_cuts_alike};
+
+    ghost hash_input = { hash_input_of };
+
+    ghost respects_eq = { equal_cuts_alike };
+
+    fn hash<H: Hasher>(&self, state: &mut H) {
+        match self.kind {
+            Kind::Subtour => state.write_u8(0),
+            Kind::Comb => state.write_u8(1),
+        }
+        hash_sets(&self.sets, state);
+        self.n.hash(state);
+    }
+}
+
+// Compares the cities of one set after the other.
+fn compare_sets(a: &[CitySet], b: &[CitySet]) -> Ordering
+    ensures { result ≡ slice_cmp (slice_cmp nat_cmp) (cities_of_each a.now) (cities_of_each b.now) }
+{
+    for i in 0..a.len().min(b.len()) {
+        let order = a[i].cities().cmp(&b[i].cities());
+        if order.is_ne() {
+            return order;
+        }
+    }
+    a.len().cmp(&b.len())
+}
+
+// Hashes how many sets there are, and the cities of each.
+fn hash_sets<H: Hasher>(sets: &[CitySet], state: &mut H)
+    ensures { state.new ≡ fold H.write state.old (fed.slice (fed.slice fed.u32) (cities_of_each sets.now)) }
+{
+    state.write_usize(sets.len());
+    for set in sets {
+        set.cities().hash(state);
+    }
+}
+
+fn copy_sets(alloc: Global, sets: &[CitySet]) -> Result<Vec<CitySet>, AllocError>
+    ensures { IfOk result (λ v. v.items ≡ sets.now) }
+{
+    let mut copies = Vec::with_capacity(alloc, sets.len())?;
+    for set in sets {
+        copies.push(set.copy(alloc)?)?;
+    }
+    Ok(copies)
+}

@@ -1,0 +1,11 @@
+pub mod Outside
+pub mod Buffers
+pub mod Calls
+pub mod Desk
+pub mod FileDesk
+pub mod FileSlots
+pub mod MemDesk
+pub mod MemSlots
+pub mod Slots
+pub mod SlotFile
+pub mod Records

@@ -1,0 +1,12 @@
+pub mod HeaderLemmas
+pub mod TableLemmas
+pub mod FillLemmas
+pub mod WeightLemmas
+pub mod PointLemmas
+pub mod LineLemmas
+pub mod Shrinking
+pub mod JudgingLemmas
+pub mod LengthLemmas
+pub mod PlainLines
+pub mod PlainPoints
+pub mod PlainMatrix

@@ -1,0 +1,10 @@
+pub mod Refusals
+pub mod Keywords
+pub mod Headers
+pub mod Tables
+pub mod Sections
+pub mod Texts
+pub mod Views
+pub mod Reads
+pub mod Laws
+pub mod Plain

@@ -1,0 +1,4 @@
+pub mod Text
+pub mod Lexer
+pub mod Number
+pub mod Digits
