@@ -35,7 +35,7 @@ or-assoc : (x y z : Bool) → (x || y) || z ≡ x || (y || z)
 or-assoc true y z = refl
 or-assoc false y z = refl
 
-or-false : (x : Bool) → x || false ≡ x
+pub or-false : (x : Bool) → x || false ≡ x
 or-false true = refl
 or-false false = refl
 
@@ -46,7 +46,7 @@ is_absent-append (present a b ∷ path) more u v = is_absent-append path more u 
 is_absent-append (two s ∷ path) more u v = is_absent-append path more u v
 is_absent-append (four s ∷ path) more u v = is_absent-append path more u v
 
-is_present-append : (path more : List Condition) (u v : ℕ) → is_present (path ++ more) u v ≡ is_present path u v || is_present more u v
+pub is_present-append : (path more : List Condition) (u v : ℕ) → is_present (path ++ more) u v ≡ is_present path u v || is_present more u v
 is_present-append [] more u v = refl
 is_present-append (present a b ∷ path) more u v = ap (λ x. joins u v (a, b) || x) (is_present-append path more u v) ∙ sym (or-assoc (joins u v (a, b)) (is_present path u v) (is_present more u v))
 is_present-append (absent a b ∷ path) more u v = is_present-append path more u v
@@ -71,7 +71,7 @@ is_present-swap (two s ∷ path) u v = is_present-swap path u v
 is_present-swap (four s ∷ path) u v = is_present-swap path u v
 
 -- a pair in either order
-undecided_at : (path : List Condition) (a b u v : ℕ) → joins u v (a, b) ≡ true → is_decided path a b ≡ false → (is_absent path u v ≡ false) × (is_present path u v ≡ false)
+pub undecided_at : (path : List Condition) (a b u v : ℕ) → joins u v (a, b) ≡ true → is_decided path a b ≡ false → (is_absent path u v ≡ false) × (is_present path u v ≡ false)
 undecided_at path a b u v j h =
     let p = or_parts (is_absent path a b) (is_present path a b) h in
     let sa = is_absent-swap path a b in
@@ -106,7 +106,7 @@ term_present false false true x h = omega (arith, ints)
 term_present false false false x h = omega (arith, ints)
 
 -- one pair alone
-at_pair : (f : ℕ → ℕ → ℤ) (a b n : ℕ) → a < b → b < n → sum_pairs (λ u v. cond (joins u v (a, b)) (f u v) (pos 0)) n ≡ f a b
+pub at_pair : (f : ℕ → ℕ → ℤ) (a b n : ℕ) → a < b → b < n → sum_pairs (λ u v. cond (joins u v (a, b)) (f u v) (pos 0)) n ≡ f a b
 at_pair f a b n h l =
     let g : ℕ → ℕ → ℤ = λ u v. f (min u v) (max u v) in
     let low : (u v : ℕ) → u < v → f u v ≡ g u v = λ u v q. let e : min u v ≡ u = omega arith in let k : max u v ≡ v = omega arith in cc in

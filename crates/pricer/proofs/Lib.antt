@@ -7,3 +7,5 @@ pub mod TrailLemmas
 pub mod ListLemmas
 pub mod SpreadLemmas
 pub mod RowLemmas
+pub mod RingLemmas
+pub mod DegreeLemmas
