@@ -18,6 +18,7 @@ pub enum SlotCall {
 /// A call of slots in memory.
 #[derive(Clone, Copy, Debug, PartialEq, Eq)]
 pub struct SlotEntry {
+    /// Never `Any`.
     pub call: SlotCall,
     /// 0 or 1; 0 of a bind.
     pub slot: u8,

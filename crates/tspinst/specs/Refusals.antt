@@ -1,5 +1,5 @@
 -- The first refusal of a text as numbers: which one it is, its line (0 for the whole text), and what more is told.
-use Rattle.std.specs.Prelude.{ℕ, List, [], ◌∷◌}
+use Rattle.std.specs.Prelude.{ℕ, List, [], ◌∷◌, ◌++◌, codes, decimal, flat_map}
 use Rattle.tsplex.specs.declared.number.NumberFault.{NumberFault}
 use Rattle.tsplex.specs.declared.number.NumberFault.TheVariants.{NotANumber, Fractional, OutOfRange}
 use Rattle.tspinst.specs.declared.refusals.Part.{Part}
@@ -66,3 +66,7 @@ extras_of (refusals.Asymmetric k i j) = i ∷ j ∷ []
 extras_of refusals.Truncated = []
 extras_of (refusals.Missing part) = part_number part ∷ []
 extras_of (refusals.FixedEdges k) = []
+
+-- the numbers of a refusal as they are printed, one space between them
+abbrev pub refusal_text : Refusal → List ℕ
+refusal_text r = decimal (number_of r) ++ codes " " ++ decimal (line_of r) ++ flat_map (λ x. codes " " ++ decimal x) (extras_of r)

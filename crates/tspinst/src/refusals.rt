@@ -4,6 +4,8 @@ ghost use Rattle.std.specs.Prelude.{◌≡◌, ◌++◌};
 ghost use Rattle.std.specs.Option.{option_to_list};
 
 use std::alloc::AllocError;
+use std::error::Error;
+use std::fmt;
 use tsplex::NumberFault;
 
 /// What a text needs before its end.
@@ -104,6 +106,26 @@ impl Refusal {
     }
 }
 
+impl fmt::Display for Refusal {
+    ghost use Rattle.std.specs.Prelude.{Some};
+    ghost use Rattle.tspinst.specs.Refusals.{refusal_text};
+
+    ghost output = { λ r. Some (refusal_text r) };
+
+    /// Writes the number, the line and what more is told, one space between them.
+    fn fmt<W: fmt::Write>(&self, f: &mut fmt::Formatter<W>) -> fmt::Result {
+        let number = self.number();
+        let line = self.line();
+        match self.extras() {
+            (Some(first), Some(second)) => write!(f, "{number} {line} {first} {second}"),
+            (Some(only), None) | (None, Some(only)) => write!(f, "{number} {line} {only}"),
+            (None, None) => write!(f, "{number} {line}"),
+        }
+    }
+}
+
+impl Error for Refusal {}
+
 /// Why a text is not read.
 #[derive(Clone, Copy, Debug, PartialEq, Eq, Drop)]
 pub enum ReadError {
@@ -132,3 +154,15 @@ impl From<AllocError> for ReadError {
         ReadError::NoMemory
     }
 }
+
+impl fmt::Display for ReadError {
+    fn fmt<W: fmt::Write>(&self, f: &mut fmt::Formatter<W>) -> fmt::Result {
+        match self {
+            ReadError::NoMemory => write!(f, "out of memory"),
+            ReadError::Failed => write!(f, "the outside failed"),
+            ReadError::Refused(refusal) => write!(f, "refused: {refusal}"),
+        }
+    }
+}
+
+impl Error for ReadError {}

@@ -2,12 +2,13 @@
 
 ghost use Rattle.std.specs.Prelude.{◌<◌};
 
-use crate::{Instance, ReadError, from_points, read};
+use crate::{Instance, Part, ReadError, Refusal, from_points, read};
 use cyc::Tour;
 use distx::{Kind, Point};
 use ports::{MemDesk, Room};
 use std::alloc::{AllocError, Global};
 use std::test::Fail;
+use tsplex::NumberFault;
 
 const SQUARE: &[u8] =
     b"NAME : square\nTYPE : TSP\nDIMENSION : 4\nEDGE_WEIGHT_TYPE : EUC_2D\nNODE_COORD_SECTION\n1 0 0\n2 0 10\n3 10 10\n4 10 0\nEOF\n";
@@ -307,6 +308,23 @@ fn first_refusals_of_sections(rt: HostRuntime) -> Result<(), Fail> {
     for (head, rest, want) in rows {
         let text = format!(in alloc; "{head}{rest}")?;
         assert_eq!(rt; refused(alloc, text.as_bytes()), want, "{text}");
+    }
+    Ok(())
+}
+
+#[test]
+fn refusals_print_their_numbers(rt: HostRuntime) -> Result<(), Fail> {
+    let alloc = rt.alloc();
+    let rows = [
+        (Refusal::TooLong, "1 0"),
+        (Refusal::Repeated(3), "3 3"),
+        (Refusal::BadNumber(7, NumberFault::Fractional), "9 7 2"),
+        (Refusal::Asymmetric(7, 1, 2), "11 7 1 2"),
+        (Refusal::Missing(Part::Distances), "13 0 4"),
+    ];
+    for (refusal, want) in rows {
+        let told = format!(in alloc; "{refusal}")?;
+        assert_eq!(rt; told.as_str(), want);
     }
     Ok(())
 }

@@ -61,15 +61,28 @@ pub fn capped_digits(bytes: &[u8]) -> Capped<'_>
 const CAP: u64 = 0x1_0000_0000;
 
 /// A power of ten that is small.
+#[inline]
 pub fn power_of_ten(zeros: u64) -> u64
     requires { zeros < 10 }
     ensures same { result ≡ 10 ^ zeros }
     ensures bound { result ≤ 10 ^ 9 }
 {
-    10u64.pow(zeros as u32)
+    match zeros {
+        0 => 1,
+        1 => 10,
+        2 => 100,
+        3 => 1_000,
+        4 => 10_000,
+        5 => 100_000,
+        6 => 1_000_000,
+        7 => 10_000_000,
+        8 => 100_000_000,
+        _ => 1_000_000_000,
+    }
 }
 
 /// A digit behind zeros.
+#[inline]
 fn appended(front: u64, zeros: u64, digit: u64) -> u64
     requires front { front ≤ 2 ^ 32 }
     requires zeros { zeros < 9 }

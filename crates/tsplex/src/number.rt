@@ -7,6 +7,8 @@ ghost use Rattle.tsplex.specs.Digits.{Keeps, CapsPower};
 
 use crate::digits::{Kept, Run, capped_digits, digits, power_of_ten};
 use crate::front::{begins, tail, unsigned};
+use std::error::Error;
+use std::fmt;
 
 /// Why a token is not taken, by the number that texts are refused with.
 #[derive(Clone, Copy, Debug, PartialEq, Eq, Drop)]
@@ -18,6 +20,18 @@ pub enum NumberFault {
     /// It is a whole number of a size above the limit.
     OutOfRange = 3,
 }
+
+impl fmt::Display for NumberFault {
+    fn fmt<W: fmt::Write>(&self, f: &mut fmt::Formatter<W>) -> fmt::Result {
+        match self {
+            NumberFault::NotANumber => write!(f, "not a number"),
+            NumberFault::Fractional => write!(f, "not a whole number"),
+            NumberFault::OutOfRange => write!(f, "out of range"),
+        }
+    }
+}
+
+impl Error for NumberFault {}
 
 /// The digits behind a point at the front, behind others.
 fn fraction(before: Kept, bytes: &[u8]) -> Run<'_>
