@@ -59,8 +59,8 @@ impl Tree {
         })
     }
 
-    /// Makes room for k more nodes at least.
-    pub fn reserve(&mut self, k: u32) -> Result<(), AllocError>
+    /// Makes room for k more nodes at least, by the allocator that the tree was made with.
+    pub fn reserve(&mut self, _alloc: Global, k: u32) -> Result<(), AllocError>
         requires { length self.old.nodes + k < 2 ^ 32 }
         ensures ok { OnOk result (self.new ≡ record self.old { room = max self.old.room k }) }
         ensures err { OnErr result (self.new ≡ self.old) }

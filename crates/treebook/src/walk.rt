@@ -1,16 +1,20 @@
 //! What a node's path says, found by going up from the node to the root.
-ghost use Rattle.std.specs.Prelude.{◌≡◌, ℕ, ◌+◌, ◌<◌, ◌↔◌, List, [], ◌∷◌, ◌++◌, length, IsTrue, IfOk, OnOk};
+ghost use Rattle.std.specs.Prelude.{◌≡◌, ℕ, ◌+◌, ◌<◌, ◌≤ℤ◌, ◌*◌, ◌^◌, ◌↔◌, pos, List, [], ◌∷◌, ◌++◌, length, IsTrue, IfOk, OnOk};
 ghost use Rattle.tspdef.specs.Sets.{IsComplement};
-ghost use Rattle.tspdef.specs.Paths.{IsApartFrom, MayFollow, IsNew, is_decided};
-ghost use Rattle.tspdef.specs.Closings.{Fits, IsMisfit};
+ghost use Rattle.tspdef.specs.Tours.{steps};
+ghost use Rattle.tspdef.specs.Instances.{IsTourOf, length_in};
+ghost use Rattle.tspdef.specs.Paths.{IsApartFrom, MayFollow, IsNew, Obeys, is_decided};
+ghost use Rattle.tspdef.specs.Closings.{Fits, IsClosing, IsMisfit};
+ghost use Rattle.tspdef.specs.Bounds as defs;
 ghost use Rattle.branchx.specs.Cond as cond;
 ghost use Rattle.pricer.specs.Trails.{condition_of};
+ghost use Rattle.pricer.specs.Sizes.{IsWithin};
 ghost use Rattle.treebook.specs.Tables.{own_condition, path_at, way};
 
 use crate::tree::Tree;
 use branchx::{Cond, Path};
 use cyc::CitySet;
-use pricer::{Closing, Fit, Step, Trail, fits_on};
+use pricer::{Closing, Fit, Step, Trail, bound_on, fits_on};
 use std::alloc::{AllocError, Global};
 use tspinst::Instance;
 
@@ -73,6 +77,18 @@ impl Tree {
         ensures misfit { (k : ℕ) → (result ≡ Fit.Misfit k) ↔ IsMisfit instance.now.n (path_at self.now.nodes node) closing.now k }
     {
         fits_on(instance, self.trail(node), closing)
+    }
+
+    /// The bound of a closing at a node, in units: no tour that obeys the node's path is shorter.
+    pub fn bound_at(&self, instance: &Instance, node: u32, closing: &Closing) -> i128
+        requires node { node < length self.now.nodes }
+        requires cities { self.now.n ≡ instance.now.n }
+        requires closing { IsClosing instance.now.n (path_at self.now.nodes node) closing.now }
+        ensures value { result ≡ defs.bound instance.now (path_at self.now.nodes node) closing.now }
+        ensures size { IsWithin (2 ^ 110) result }
+        ensures below { (tour : List ℕ) → IsTourOf instance.now tour → Obeys (steps tour) (path_at self.now.nodes node) → result ≤ℤ pos (defs.scale * length_in instance.now tour) }
+    {
+        bound_on(instance, self.trail(node), closing)
     }
 
     /// Whether a node's path says of two cities, in either order, if they are joined.
