@@ -1,8 +1,8 @@
-use Rattle.std.proofs.Common.{◌≡◌, ◌≢◌, ℕ, zero, suc, ◌+◌, ◌-◌, ◌<◌, ◌≤◌, List, [], ◌∷◌, ◌++◌, length, refl, sym, ◌∙◌, ap, subst, arith, ⊎_elim}
+use Rattle.std.proofs.Common.{◌≡◌, ◌≢◌, ℕ, zero, suc, ◌+◌, ◌-◌, ◌<◌, ◌≤◌, List, length, refl, sym, ◌∙◌, ap, subst, arith, ⊎_elim}
 use Rattle.std.proofs.lemmas.Bool.{cases_lt}
 use Rattle.tspdef.specs.Closings.{Closing, Fits}
-use Rattle.tspdef.specs.Trees.{Tree, open_leaf, closed_leaf, edge_split, clique_split, open_leaves, settled}
-use Rattle.treebook.specs.Tables.{Branch, on_edge, on_clique, State, open_node, closed_node, split_node, Node, state_at, path_at, split_tree, grown, tree_within, tree_at, tree_of, MaySplit, HasChildren, IsStateOf, IsTable, IsOpen, NoneOpen, closed_at, split_at}
+use Rattle.tspdef.specs.Trees.{Tree, open_leaves}
+use Rattle.treebook.specs.Tables.{Branch, on_edge, on_clique, State, open_node, closed_node, split_node, Node, state_at, path_at, split_tree, grown, tree_within, tree_of, MaySplit, IsStateOf, IsTable, IsOpen, NoneOpen, closed_at, split_at}
 use Rattle.treebook.specs.TreeInside.{HasCounts, IsFront}
 use Rattle.treebook.proofs.Growing.{Grows, closed_grows, split_grows, split_length, closed_length, closing_keeps_tables, splitting_keeps_tables}
 

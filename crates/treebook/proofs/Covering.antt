@@ -1,14 +1,15 @@
-use Rattle.std.proofs.Common.{◌≡◌, ℕ, zero, suc, ◌+◌, ◌<◌, ◌≤◌, Bool, cond, List, [], ◌∷◌, ◌++◌, length, refl, sym, ◌∙◌, ap, subst, arith, eq-eqb, Some}
+use Rattle.std.proofs.Common.{inl, inr, ⊎_elim, ◌≡◌, ℕ, zero, suc, ◌+◌, ◌<◌, ◌≤◌, Bool, cond, List, [], ◌∷◌, ◌++◌, length, refl, sym, ◌∙◌, ap, subst, arith, eq-eqb, Some}
+use Rattle.std.proofs.lemmas.Int.{ints}
 use Rattle.treebook.proofs.WayLemmas.{path_step}
 use Rattle.std.proofs.lemmas.Bool.{ne_eqb}
-use Rattle.std.specs.Prelude.{ℤ}
+use Rattle.std.specs.Prelude.{ℤ, ◌≤ℤ◌}
 use Rattle.tspdef.specs.Instances.{Instance}
-use Rattle.tspdef.specs.Paths.{Condition, root}
+use Rattle.tspdef.specs.Paths.{Condition, absent, present, two, four, root}
 use Rattle.tspdef.specs.Bounds.{needed}
-use Rattle.tspdef.specs.Trees.{Tree, open_leaf, closed_leaf, Side, first, second, IsSound, Covers, open_path, with_leaf}
+use Rattle.tspdef.specs.Trees.{Tree, open_leaf, closed_leaf, edge_split, clique_split, Side, first, second, IsSound, Covers, open_path, with_leaf}
 use Rattle.tspdef.specs.Laws.{FittingIsClosing, EdgeSplitCovers, CliqueSplitCovers, ClosingCovers}
 use Rattle.treebook.specs.Tables.{Branch, on_edge, on_clique, State, open_node, closed_node, split_node, Node, parent_at, state_at, condition_on, condition_under, path_at, sides_of, split_tree, grown, tree_within, tree_of, MaySplit, HasChildren, IsStateOf, IsTable}
-use Rattle.treebook.specs.Laws.{ClosingKeepsCovers, SplittingKeepsCovers, ClosingKeepsSound, SplittingKeepsSound, ClosesFor, ClosedTablesAreSound}
+use Rattle.treebook.specs.Laws.{ClosingKeepsCovers, SplittingKeepsCovers, ClosingKeepsSound, SplittingKeepsSound, ClosesFor, ClosedTablesAreSound, LessIsKept}
 use Rattle.treebook.proofs.TreeLemmas.{are_behind, open_nodes_are_open_leaves}
 use Rattle.treebook.proofs.Growing.{closing_keeps_tables, splitting_keeps_tables}
 use Rattle.treebook.proofs.PlaceLemmas.{sound-with_leaf}
@@ -100,3 +101,20 @@ sound_within fitting i l nodes t closes (suc fuel) k x m =
 
 pub closed_tables_are_sound : FittingIsClosing → ClosedTablesAreSound
 closed_tables_are_sound fitting i nodes l t closes = sound_within fitting i l nodes t closes (length nodes) 0 (omega arith) t.some
+
+-- ---- lesser lengths
+
+needed_less : (l m : ℕ) → m ≤ l → needed m ≤ℤ (needed l)
+needed_less l m h = omega (arith, ints)
+
+sound_less : (i : Instance) (l m : ℕ) (path : List Condition) (t : Tree) → m ≤ l → IsSound i (needed l) path t → IsSound i (needed m) path t
+sound_less i l m path open_leaf h s = tt
+sound_less i l m path (closed_leaf c) h s = let less = needed_less l m h in let more = s.1 in (s.0, omega (arith, ints))
+sound_less i l m path (edge_split u v a b) h s = (s.0, (sound_less i l m (path ++ absent u v ∷ []) a h s.1.0, sound_less i l m (path ++ present u v ∷ []) b h s.1.1))
+sound_less i l m path (clique_split q a b) h s = (s.0, (sound_less i l m (path ++ two q ∷ []) a h s.1.0, sound_less i l m (path ++ four q ∷ []) b h s.1.1))
+
+pub less_is_kept : LessIsKept
+less_is_kept i l m t h = record {
+  covers = λ covers tour is. ⊎_elim (λ x. inl x) (λ x. inr (omega arith)) (covers tour is);
+  sound = sound_less i l m [] t h;
+}

@@ -1,11 +1,10 @@
-use Rattle.std.proofs.Common.{◌≡◌, ◌≢◌, ℕ, ◌+◌, ◌-◌, ◌<◌, ◌≤◌, List, [], ◌∷◌, ◌++◌, length, refl, sym, ◌∙◌, ap, subst, arith, append_assoc}
+use Rattle.std.proofs.Common.{◌≡◌, ℕ, ◌+◌, ◌-◌, ◌<◌, ◌≤◌, List, [], ◌∷◌, ◌++◌, length, sym, ◌∙◌, ap, subst, arith, append_assoc}
 use Rattle.std.specs.Prelude.{◌<ℤ◌}
 use Rattle.std.proofs.lemmas.List.{length-map}
 use Rattle.tspdef.specs.Instances.{Instance}
-use Rattle.tspdef.specs.Paths.{Condition}
 use Rattle.tspdef.specs.Closings.{Closing, Fits}
 use Rattle.tspdef.specs.Bounds.{bound, needed}
-use Rattle.treebook.specs.Tables.{Branch, State, split_node, open_node, open_under, Node, state_at, path_at, tree_of, MaySplit, IsTable, IsOpen, NoneOpen, with_state, closed_at, split_at}
+use Rattle.treebook.specs.Tables.{Branch, split_node, open_node, open_under, Node, state_at, path_at, MaySplit, IsTable, IsOpen, NoneOpen, with_state, closed_at, split_at}
 use Rattle.treebook.specs.Laws.{KeepsTree, ClosingKeepsCovers, ClosingKeepsSound, SplittingKeepsCovers, SplittingKeepsSound}
 use Rattle.treebook.specs.Tree.{Table, node_of, nodes_of}
 use Rattle.treebook.specs.TreeInside.{table_of, HasCounts, IsFront, IsWellKept}
@@ -29,10 +28,10 @@ closed_in a t more k c view kept o f e =
     let fits : Fits a.n (path_at nodes k) c = subst (λ (x : Table). Fits x.n (path_at x.nodes k) c) (sym view) f in
     let counts = counts_closed a.n nodes more k c a.open_count a.settled_count e kept.is_table is_open fits kept.counts in
     record {
-    some = counts.0;
-    is_table = subst (IsTable a.n) (sym e) (closing_keeps_tables a.n nodes k c kept.is_table is_open fits).is_table;
-    counts = counts.1;
-    none_before = none_open_closed nodes more k c a.front e is_open kept.front;
+      some = counts.0;
+      is_table = subst (IsTable a.n) (sym e) (closing_keeps_tables a.n nodes k c kept.is_table is_open fits).is_table;
+      counts = counts.1;
+      none_before = none_open_closed nodes more k c a.front e is_open kept.front;
     }
 
 pub closed_keeps : ClosingKeepsCovers → ClosingKeepsSound → (a : Inside) (t : Table) (more : List Node) (k : ℕ) (c : Closing) → table_of a ≡ t → IsWellKept a
@@ -44,8 +43,8 @@ closed_keeps covers sound a t more k c view kept o f e i l cities many q =
     let table_i : IsTable i.n t.nodes = subst (λ (n : ℕ). IsTable n t.nodes) (sym cities) table in
     let fits_i : Fits i.n (path_at t.nodes k) c = subst (λ (n : ℕ). Fits n (path_at t.nodes k) c) (sym cities) f in
     subst (KeepsTree i l t.nodes) (sym now) (record {
-    covers = covers i t.nodes k c l many table_i o fits_i q;
-    sound = sound i t.nodes k c l table_i o fits_i q;
+      covers = covers i t.nodes k c l many table_i o fits_i q;
+      sound = sound i t.nodes k c l table_i o fits_i q;
     })
 
 -- what they are once a node is split
@@ -61,9 +60,9 @@ split_in a t more k b view kept o f e =
     let is_open : IsOpen nodes k = subst (λ (x : Table). IsOpen x.nodes k) (sym view) o in
     let fits : MaySplit a.n (path_at nodes k) b = subst (λ (x : Table). MaySplit x.n (path_at x.nodes k) b) (sym view) f in
     record {
-    is_table = subst (IsTable a.n) (sym e) (splitting_keeps_tables a.n nodes k b kept.is_table is_open fits).is_table;
-    counts = counts_split a.n nodes more k b a.open_count a.settled_count e kept.is_table is_open fits kept.counts;
-    none_before = none_open_split nodes more k b a.front e is_open kept.front;
+      is_table = subst (IsTable a.n) (sym e) (splitting_keeps_tables a.n nodes k b kept.is_table is_open fits).is_table;
+      counts = counts_split a.n nodes more k b a.open_count a.settled_count e kept.is_table is_open fits kept.counts;
+      none_before = none_open_split nodes more k b a.front e is_open kept.front;
     }
 
 pub split_keeps : SplittingKeepsCovers → SplittingKeepsSound → (a : Inside) (t : Table) (more : List Node) (k : ℕ) (b : Branch) → table_of a ≡ t → IsWellKept a
@@ -75,8 +74,8 @@ split_keeps covers sound a t more k b view kept o f e i l cities =
     let table_i : IsTable i.n t.nodes = subst (λ (n : ℕ). IsTable n t.nodes) (sym cities) table in
     let fits_i : MaySplit i.n (path_at t.nodes k) b = subst (λ (n : ℕ). MaySplit n (path_at t.nodes k) b) (sym cities) f in
     subst (KeepsTree i l t.nodes) (sym now) (record {
-    covers = covers i t.nodes k b l table_i o fits_i;
-    sound = sound i t.nodes k b l table_i o fits_i;
+      covers = covers i t.nodes k b l table_i o fits_i;
+      sound = sound i t.nodes k b l table_i o fits_i;
     })
 
 -- two nodes put behind a table with one split
@@ -93,7 +92,7 @@ pub front_from : (xs ys : List fields.Node) (f g : ℕ) → xs ≡ ys → NoneOp
 front_from xs ys f g same before within next is_open =
     let len = length-map xs node_of in
     subst (λ (zs : List fields.Node). IsFront (nodes_of zs) g) same (record {
-    within = omega arith;
-    none_before = none_open_on (nodes_of xs) f g (subst (λ (zs : List fields.Node). NoneOpen (nodes_of zs) 0 f) (sym same) before) next;
-    is_open = λ l. is_open (omega arith);
+      within = omega arith;
+      none_before = none_open_on (nodes_of xs) f g (subst (λ (zs : List fields.Node). NoneOpen (nodes_of zs) 0 f) (sym same) before) next;
+      is_open = λ l. is_open (omega arith);
     })

@@ -2,8 +2,9 @@ use Rattle.std.proofs.Common.{◌≡◌, ℕ, zero, suc, ◌+◌, ◌<◌, ◌�
 use Rattle.std.specs.Prelude.{◌==◌}
 use Rattle.std.proofs.lemmas.Bool.{cases_Bool, eqb-true, or_cases, false≢true}
 use Rattle.std.proofs.lemmas.List.{append-nil}
-use Rattle.tspdef.specs.Paths.{Condition, MayFollow, ContinuesPath, IsPath}
+use Rattle.tspdef.specs.Paths.{Condition, MayFollow, IsPath}
 use Rattle.tspdef.specs.Trees.{Tree, open_leaf, Side, first, second, open_path}
+use Rattle.branchx.proofs.PathLemmas.{continues-push}
 use Rattle.treebook.specs.Tables.{Branch, on_edge, on_clique, State, open_node, closed_node, split_node, Node, parent_at, state_at, condition_on, side_under, condition_under, side_at, own_condition, path_at, sides_of, split_tree, grown, tree_within, tree_at, tree_of, is_child, IsStateOf, IsTable, IsOpen}
 use Rattle.treebook.specs.Laws.{PathsArePaths, OpenNodesAreOpenLeaves}
 use Rattle.treebook.proofs.WayLemmas.{AreBehind, from_parents, path_step, sides_step}
@@ -104,11 +105,6 @@ open_nodes_are_open_leaves n nodes k t o =
 
 -- ---- paths
 
-continues_push : (n : ℕ) (path more : List Condition) (c : Condition) → ContinuesPath n path more → MayFollow n (path ++ more) c → ContinuesPath n path (more ++ c ∷ [])
-continues_push n path [] c h f = (subst (λ (p : List Condition). MayFollow n p c) (append-nil path) f, tt)
-continues_push n path (x ∷ xs) c h f =
-    (h.0, continues_push n (path ++ x ∷ []) xs c h.1 (subst (λ (p : List Condition). MayFollow n p c) (sym (append_assoc path (x ∷ []) xs)) f))
-
 -- the condition on a child may follow the path of its parent
 may_follow : (n : ℕ) (nodes : List Node) (k : ℕ) (s : State) (c : ℕ) → IsStateOf n nodes k s → is_child s c ≡ true → MayFollow n (path_at nodes k) (condition_under s c)
 may_follow n nodes k open_node c ok h = absurd (false≢true h)
@@ -121,6 +117,6 @@ paths_are_paths n nodes k t m = from_parents (λ j. IsPath n (path_at nodes j)) 
     (λ j p q ih.
     let b = t.parents j p q in let less = b.behind in
     subst (IsPath n) (sym (path_step nodes j (are_behind n nodes t) p q))
-    (continues_push n [] (path_at nodes (parent_at nodes j)) (own_condition nodes j) ih
+    (continues-push n [] (path_at nodes (parent_at nodes j)) (own_condition nodes j) ih
     (may_follow n nodes (parent_at nodes j) (state_at nodes (parent_at nodes j)) j (t.states (parent_at nodes j) (omega arith)) b.child)))
     k k (omega arith) m

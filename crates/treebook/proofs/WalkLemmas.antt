@@ -1,12 +1,11 @@
-use Rattle.std.proofs.Common.{◌≡◌, ℕ, zero, suc, ◌+◌, ◌-◌, ◌<◌, ◌≤◌, Bool, true, false, ◌||◌, List, [], ◌∷◌, ◌++◌, length, map, get_or, take, reverse, refl, sym, ◌∙◌, ap, subst, arith, ◌⊎◌, ⊎_elim, append_assoc, length-append}
-use Rattle.std.specs.List.{AllByRecursion}
+use Rattle.std.proofs.Common.{◌≡◌, ℕ, zero, suc, ◌+◌, ◌-◌, ◌<◌, true, ◌||◌, List, [], ◌∷◌, ◌++◌, length, map, get_or, take, reverse, refl, sym, ◌∙◌, ap, subst, arith, ⊎_elim, append_assoc, length-append}
 use Rattle.std.proofs.lemmas.Bool.{cases_lt}
 use Rattle.std.proofs.lemmas.List.{append-nil, length-map, take-map, get_or_default, get_or-append_right, get_or_append_left, reverse-append}
 use Rattle.tspdef.specs.Paths.{Condition, MayFollow, ContinuesPath, IsPath, is_decided, IsApartFrom, IsNew}
 use Rattle.branchx.specs.Cond.{decides}
 use Rattle.branchx.proofs.PathLemmas.{is_decided-push}
-use Rattle.treebook.specs.Tables.{Node, State, node_at, parent_at, state_at, own_condition, condition_under, is_child, way, path_at, IsAbove, IsTable}
-use Rattle.treebook.specs.Tree.{Table, node_of, nodes_of, state_of}
+use Rattle.treebook.specs.Tables.{Node, State, parent_at, state_at, own_condition, condition_under, is_child, way, path_at, IsAbove, IsTable}
+use Rattle.treebook.specs.Tree.{node_of, nodes_of, state_of}
 use Rattle.treebook.specs.declared.node.Node as fields
 use Rattle.treebook.proofs.NodeLemmas.{node_read}
 use Rattle.treebook.proofs.WayLemmas.{AreBehind, from_parents, way_step, path_step}
@@ -26,10 +25,10 @@ reads_above n ks k x t ne m is =
     let below = t.parents k (omega arith) (omega arith) in
     let behind = below.behind in
     record {
-    behind = omega arith;
-    parent = parent;
-    child = λ y at. subst (λ (s : State). is_child s k ≡ true) (ap (λ (z : Node). z.state) (node_read ks x.parent y (omega arith) at))
-    (subst (λ (p : ℕ). is_child (state_at (nodes_of ks) p) k ≡ true) parent below.child);
+      behind = omega arith;
+      parent = parent;
+      child = λ y at. subst (λ (s : State). is_child s k ≡ true) (ap (λ (z : Node). z.state) (node_read ks x.parent y (omega arith) at))
+          (subst (λ (p : ℕ). is_child (state_at (nodes_of ks) p) k ≡ true) parent below.child);
     }
 
 pub is_above : (n : ℕ) (ks : List fields.Node) (k : ℕ) (x y : fields.Node) (c : Condition) → IsTable n (nodes_of ks) → (k ≡ 0 → ⊥) → k < length ks → x ≡ get_or ks k x → y ≡ get_or ks x.parent y
@@ -42,11 +41,11 @@ is_above n ks k x y c t ne m is at own =
     let state = ap (λ (z : Node). z.state) (node_read ks x.parent y (omega arith) at) in
     let same : c ≡ own_condition (nodes_of ks) k = own ∙ ap (λ (s : State). condition_under s k) (sym state) ∙ ap (λ (p : ℕ). condition_under (state_at (nodes_of ks) p) k) (sym r.parent) in
     record {
-    behind = behind;
-    own = same;
-    way = way_step (nodes_of ks) k b (omega arith) (omega arith) ∙ ap (λ (p : ℕ). way (nodes_of ks) p ++ k ∷ []) r.parent;
-    path = path_step (nodes_of ks) k b (omega arith) (omega arith) ∙ ap (λ (p : ℕ). path_at (nodes_of ks) p ++ own_condition (nodes_of ks) k ∷ []) r.parent
-    ∙ ap (λ (d : Condition). path_at (nodes_of ks) x.parent ++ d ∷ []) (sym same);
+      behind = behind;
+      own = same;
+      way = way_step (nodes_of ks) k b (omega arith) (omega arith) ∙ ap (λ (p : ℕ). way (nodes_of ks) p ++ k ∷ []) r.parent;
+      path = path_step (nodes_of ks) k b (omega arith) (omega arith) ∙ ap (λ (p : ℕ). path_at (nodes_of ks) p ++ own_condition (nodes_of ks) k ∷ []) r.parent
+          ∙ ap (λ (d : Condition). path_at (nodes_of ks) x.parent ++ d ∷ []) (sym same);
     }
 
 -- ---- a step up
@@ -105,10 +104,10 @@ pub follows_on_way : (n : ℕ) (f : ℕ → Condition) (ws : List ℕ) (i k : �
 follows_on_way n f ws i k h l e =
     let len = length-map ws f in
     subst (λ (p : List Condition). MayFollow n p (f k)) (take-map f i ws) (follows_at n [] (map f ws) i (f k) h (omega arith) (map_item f ws i k l e)) where
-  map_item : (f : ℕ → Condition) (ws : List ℕ) (i k : ℕ) → i < length ws → k ≡ get_or ws i k → f k ≡ get_or (map f ws) i (f k)
-  map_item f [] i k l e = absurd (omega arith)
-  map_item f (x ∷ xs) zero k l e = ap f e
-  map_item f (x ∷ xs) (suc i) k l e = map_item f xs i k (omega arith) e
+      map_item : (f : ℕ → Condition) (ws : List ℕ) (i k : ℕ) → i < length ws → k ≡ get_or ws i k → f k ≡ get_or (map f ws) i (f k)
+      map_item f [] i k l e = absurd (omega arith)
+      map_item f (x ∷ xs) zero k l e = ap f e
+      map_item f (x ∷ xs) (suc i) k l e = map_item f xs i k (omega arith) e
 
 pub follows_item : (n : ℕ) (f : ℕ → Condition) (ws : List ℕ) (i : ℕ) → IsPath n (map f ws) → i < length ws → MayFollow n (map f (take i ws)) (f (get_or ws i 0))
 follows_item n f ws i h l = follows_on_way n f ws i (get_or ws i 0) h l (get_or_default ws i 0 (get_or ws i 0) l)

@@ -4,7 +4,7 @@ use Rattle.tspdef.specs.Instances.{Instance}
 use Rattle.tspdef.specs.Paths.{IsPath}
 use Rattle.tspdef.specs.Closings.{Closing, Fits}
 use Rattle.tspdef.specs.Bounds.{bound, needed}
-use Rattle.tspdef.specs.Trees.{open_leaf, closed_leaf, IsSoundFor, Covers, open_leaves, settled, open_path, with_leaf}
+use Rattle.tspdef.specs.Trees.{Tree, open_leaf, closed_leaf, IsSoundFor, Covers, open_leaves, settled, open_path, with_leaf}
 use Rattle.treebook.specs.Tables.{Node, Branch, closed_node, fresh, state_at, path_at, sides_of, tree_of, split_tree, MaySplit, IsTable, IsOpen, closed_at, split_at}
 
 -- The root alone is a table of the tree of one open leaf.
@@ -70,6 +70,14 @@ ClosingKeepsSound = (i : Instance) (nodes : List Node) (k : ℕ) (c : Closing) (
 abbrev pub SplittingKeepsSound : Type 0
 SplittingKeepsSound = (i : Instance) (nodes : List Node) (k : ℕ) (b : Branch) (l : ℕ) → IsTable i.n nodes → IsOpen nodes k
     → MaySplit i.n (path_at nodes k) b → IsSoundFor i l (tree_of nodes) → IsSoundFor i l (tree_of (split_at nodes k b))
+
+-- What is so for l is so for lesser lengths.
+pub record KeepsForLess (i : Instance) (l m : ℕ) (t : Tree) : Type 0 where
+  pub covers : Covers i t l → Covers i t m
+  pub sound : IsSoundFor i l t → IsSoundFor i m t
+
+abbrev pub LessIsKept : Type 0
+LessIsKept = (i : Instance) (l m : ℕ) (t : Tree) → m ≤ l → KeepsForLess i l m t
 
 -- each closed node's bound exceeds what l needs
 abbrev pub ClosesFor : Instance → ℕ → List Node → Type 0

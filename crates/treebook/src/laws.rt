@@ -1,5 +1,5 @@
 //! The laws of tables of nodes.
-ghost use Rattle.treebook.specs.Laws.{FreshIsTable, PathsArePaths, OpenNodesAreOpenLeaves, ClosingKeepsTables, SplittingKeepsTables, ClosingKeepsCovers, SplittingKeepsCovers, ClosingKeepsSound, SplittingKeepsSound, ClosedTablesAreSound};
+ghost use Rattle.treebook.specs.Laws.{FreshIsTable, PathsArePaths, OpenNodesAreOpenLeaves, ClosingKeepsTables, SplittingKeepsTables, ClosingKeepsCovers, SplittingKeepsCovers, ClosingKeepsSound, SplittingKeepsSound, ClosedTablesAreSound, LessIsKept};
 
 use tspdef::{bound_is_below, trees_cover};
 
@@ -26,11 +26,12 @@ pub fn tables_cover()
     trees_cover();
 }
 
-/// Closing and splitting keep a tree sound, and a table whose closed nodes have bounds that exceed what l needs is sound.
+/// Closing and splitting keep a tree sound, and a table whose closed nodes have bounds that exceed what l needs is sound. A lesser length needs less.
 pub fn tables_are_sound()
     ensures closing { ClosingKeepsSound }
     ensures splitting { SplittingKeepsSound }
     ensures closed { ClosedTablesAreSound }
+    ensures less { LessIsKept }
 {
     bound_is_below();
 }

@@ -4,7 +4,7 @@ ghost use Rattle.std.specs.Prelude.{◌≡◌, IfOk};
 use crate::{State, Tree};
 use branchx::{Branch, Cond};
 use cyc::CitySet;
-use distx::Kind;
+use distx::{Kind, Point};
 use pricer::{Closing, Fit};
 use std::test::Fail;
 use tspinst::from_points;
@@ -17,7 +17,7 @@ fn a_split_has_two_children(rt: HostRuntime) -> Result<(), Fail> {
     assert_eq!(rt; tree.least_open(), Some(0));
     tree.split(0, Branch::Edge(0, 2));
     let path = tree.path_of(alloc, 2)?;
-    assert!(rt; path.conditions() == &[Cond::Present(0, 2)]);
+    assert!(rt; path.conditions() == [Cond::Present(0, 2)].as_slice());
     assert_eq!(rt; tree.open_nodes(), 2);
     assert_eq!(rt; tree.settled(), 1);
     assert_eq!(rt; tree.nodes(), 3);
@@ -48,7 +48,11 @@ fn no_set_is_new_below_its_split(rt: HostRuntime) -> Result<(), Fail> {
 #[test]
 fn duals_close_the_triangle(rt: HostRuntime) -> Result<(), Fail> {
     let alloc = rt.alloc();
-    let instance = from_points(alloc, Kind::Euc, &[(0, 0), (3, 0), (0, 4)])?;
+    let instance = from_points(
+        alloc,
+        Kind::Euc,
+        &[Point::new(0, 0), Point::new(3, 0), Point::new(0, 4)],
+    )?;
     let mut tree = Tree::new(alloc, 3)?;
     let city = Vec::from_slice(alloc, &[1 << 20, 2 << 20, 3 << 20])?;
     let closing = Closing::new(city, Vec::new(alloc), Vec::new(alloc));

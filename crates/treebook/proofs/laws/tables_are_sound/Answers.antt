@@ -1,4 +1,4 @@
-use Rattle.treebook.proofs.Covering.{closing_keeps_sound, splitting_keeps_sound, closed_tables_are_sound}
+use Rattle.treebook.proofs.Covering.{closing_keeps_sound, splitting_keeps_sound, closed_tables_are_sound, less_is_kept}
 use Rattle.treebook.proofs.laws.tables_are_sound.Goals as goal
 
 pub returns-clause-closing : goal.returns-clause-closing
@@ -9,3 +9,6 @@ returns-clause-splitting c = splitting_keeps_sound
 
 pub returns-clause-closed : goal.returns-clause-closed
 returns-clause-closed c = closed_tables_are_sound c.bound_is_below.ensures.fitting
+
+pub returns-clause-less : goal.returns-clause-less
+returns-clause-less c = less_is_kept

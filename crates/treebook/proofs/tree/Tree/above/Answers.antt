@@ -1,4 +1,4 @@
-use Rattle.std.proofs.Common.{◌≡◌, List, sym, ap, subst, arith, length}
+use Rattle.std.proofs.Common.{List, ap, subst, arith, length}
 use Rattle.std.proofs.lemmas.List.{length-map}
 use Rattle.treebook.specs.Tables.{Node, IsAbove}
 use Rattle.treebook.specs.Tree.{Table, node_of}

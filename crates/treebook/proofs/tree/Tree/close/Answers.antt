@@ -1,4 +1,4 @@
-use Rattle.std.proofs.Common.{◌≡◌, ℕ, List, arith}
+use Rattle.std.proofs.Common.{arith}
 use Rattle.std.proofs.lemmas.List.{length-map}
 use Rattle.treebook.specs.Tree.{node_of, nodes_of}
 use Rattle.treebook.proofs.KeptLemmas.{closed_in, closed_keeps, front_from}
@@ -21,11 +21,11 @@ invariant_of-self c =
     let next = c.next_open-self-inside.ensures in
     let len = c.settle.ensures.len in let capacity = c.settle.ensures.capacity in let room = c.self.invariant.room in let few = c.self.invariant.few in
     record {
-    is_table = closed.is_table;
-    counts = closed.counts;
-    front = front_from c.deref.result.now c.settle.new.nodes.items c.self.inside.front c.next_open-self-inside.result c.deref.ensures.value closed.none_before next.within next.none_before next.is_open;
-    room = omega arith;
-    few = omega arith;
+      is_table = closed.is_table;
+      counts = closed.counts;
+      front = front_from c.deref.result.now c.settle.new.nodes.items c.self.inside.front c.next_open-self-inside.result c.deref.ensures.value closed.none_before next.within next.none_before next.is_open;
+      room = omega arith;
+      few = omega arith;
     }
 
 pub returns-clause-keeps : goal.returns-clause-keeps

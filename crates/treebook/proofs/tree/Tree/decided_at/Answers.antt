@@ -1,4 +1,4 @@
-use Rattle.std.proofs.Common.{◌≡◌, sym, ◌∙◌, ap, arith, ◌||◌}
+use Rattle.std.proofs.Common.{sym, ◌∙◌, ap, arith, ◌||◌}
 use Rattle.std.specs.Prelude.{Bool}
 use Rattle.std.proofs.Math.Bool.{or-false}
 use Rattle.std.proofs.lemmas.Bool.{or_right}
@@ -23,7 +23,7 @@ loop-parent-preserved c =
     let behind = c.in-Some.ensures.behind in let within = c.loop-parent.invariant.within in
     let before = is_decided (path_at nodes c.in-Some.parent) c.args.u c.args.v in
     record {
-    within = omega arith;
-    so_far = sym (or-false before) ∙ ap (λ (b : Bool). before || b) (sym (sym c.decides.ensures ∙ c.if-decides.false))
-    ∙ sym (decided_step nodes c.loop-parent.here c.in-Some.parent d c.args.u c.args.v c.in-Some.ensures) ∙ c.loop-parent.invariant.so_far;
+      within = omega arith;
+      so_far = sym (or-false before) ∙ ap (λ (b : Bool). before || b) (sym (sym c.decides.ensures ∙ c.if-decides.false))
+          ∙ sym (decided_step nodes c.loop-parent.here c.in-Some.parent d c.args.u c.args.v c.in-Some.ensures) ∙ c.loop-parent.invariant.so_far;
     }

@@ -1,4 +1,4 @@
-use Rattle.std.proofs.Common.{◌≡◌, ℕ, List, ap, subst, arith, length}
+use Rattle.std.proofs.Common.{◌≡◌, List, ap, subst, arith, length}
 use Rattle.std.proofs.lemmas.List.{length-map}
 use Rattle.tspdef.specs.Trees.{open_leaves}
 use Rattle.treebook.specs.Tables.{Node, tree_of, NoneOpen}

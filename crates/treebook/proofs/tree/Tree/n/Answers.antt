@@ -1,4 +1,4 @@
-use Rattle.std.proofs.Common.{◌≡◌, ℕ, ◌<◌, List, ap, subst, length}
+use Rattle.std.proofs.Common.{ℕ, ◌<◌, List, ap, subst, length}
 use Rattle.tspdef.specs.Paths.{IsPath}
 use Rattle.treebook.specs.Tables.{Node, path_at}
 use Rattle.treebook.specs.Tree.{Table, nodes_of}

@@ -1,4 +1,4 @@
-use Rattle.std.proofs.Common.{◌≡◌, ◌<◌, length}
+use Rattle.std.proofs.Common.{◌<◌, length}
 use Rattle.tspdef.specs.Paths.{IsNew}
 use Rattle.treebook.specs.Tables.{path_at}
 use Rattle.treebook.proofs.tree.Tree.new_at.Given as goal

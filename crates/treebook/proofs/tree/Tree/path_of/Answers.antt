@@ -1,7 +1,6 @@
-use Rattle.std.proofs.Common.{◌≡◌, ℕ, ◌<◌, List, length, map, take, get_or, sym, ◌∙◌, ap, subst}
-use Rattle.std.proofs.lemmas.List.{map-append, take_more}
+use Rattle.std.proofs.Common.{ℕ, ◌<◌, List, length, map, take, get_or, sym, ◌∙◌, subst}
 use Rattle.tspdef.specs.Paths.{Condition, IsPath, MayFollow}
-use Rattle.treebook.specs.Tables.{own_condition, way, path_at}
+use Rattle.treebook.specs.Tables.{own_condition}
 use Rattle.treebook.proofs.TreeLemmas.{are_behind}
 use Rattle.treebook.proofs.WalkLemmas.{way_item, follows_item}
 use Rattle.treebook.proofs.tree.Tree.path_of.Goals as goal

@@ -24,11 +24,11 @@ invariant_of-self c =
     let room = c.self.invariant.room in let few = c.self.invariant.few in
     let view = ap (λ (t : Table). t.room) c.self.view_is in let two = c.requires.room in
     record {
-    is_table = split.is_table;
-    counts = split.counts;
-    front = front_from c.deref.result.now c.put-2.new.nodes.items c.self.inside.front c.next_open-self-inside.result c.deref.ensures.value split.none_before next.within next.none_before next.is_open;
-    room = omega arith;
-    few = omega arith;
+      is_table = split.is_table;
+      counts = split.counts;
+      front = front_from c.deref.result.now c.put-2.new.nodes.items c.self.inside.front c.next_open-self-inside.result c.deref.ensures.value split.none_before next.within next.none_before next.is_open;
+      room = omega arith;
+      few = omega arith;
     }
 
 pub returns-clause-keeps : goal.returns-clause-keeps
