@@ -26,7 +26,8 @@ pub fn tables_cover()
     trees_cover();
 }
 
-/// Closing and splitting keep a tree sound, and a table whose closed nodes have bounds that exceed what l needs is sound. A lesser length needs less.
+/// Closing and splitting keep a tree sound, and a table whose closed nodes have bounds that exceed what l needs is sound.
+/// What is so for a length is so for a lesser one.
 pub fn tables_are_sound()
     ensures closing { ClosingKeepsSound }
     ensures splitting { SplittingKeepsSound }

@@ -50,7 +50,7 @@ impl NodeState {
         }
     }
 
-    /// The condition on the node k below a node of this state, if there may be one.
+    /// The condition on a child, by its number. Only a split node has children.
     pub fn condition_under(&self, k: u32) -> Option<Step<'_>>
         requires { defs.is_child (state_of self.now) k ≡ true }
         ensures { option_map condition_of result ≡ Some (defs.condition_under (state_of self.now) k) }

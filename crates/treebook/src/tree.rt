@@ -27,6 +27,7 @@ pub struct Tree {
     room: u32,
     open_count: u32,
     settled_count: u32,
+    // the first open node, or the number of nodes: nodes never open again, so it only rises
     front: u32,
 }
 
@@ -77,7 +78,9 @@ impl Tree {
         requires is_open { IsOpen self.old.nodes node }
         requires fits { closings.Fits self.old.n (path_at self.old.nodes node) closing }
         ensures table { self.new ≡ record self.old { nodes = closed_at self.old.nodes node closing } }
-        ensures keeps { (i : Instance) (l : ℕ) → i.n ≡ self.old.n → 3 ≤ i.n → needed l <ℤ (bound i (path_at self.old.nodes node) closing) → KeepsTree i l self.old.nodes self.new.nodes }
+        ensures keeps { (i : Instance) (l : ℕ) → i.n ≡ self.old.n → 3 ≤ i.n
+            → needed l <ℤ (bound i (path_at self.old.nodes node) closing)
+            → KeepsTree i l self.old.nodes self.new.nodes }
     {
         tables_cover();
         tables_are_sound();
@@ -94,8 +97,12 @@ impl Tree {
         requires is_open { IsOpen self.old.nodes node }
         requires fits { MaySplit self.old.n (path_at self.old.nodes node) (branch_of branch) }
         requires room { 2 ≤ self.old.room }
-        ensures table { self.new ≡ record { n = self.old.n; nodes = split_at self.old.nodes node (branch_of branch); room = self.old.room - 2 } }
-        ensures keeps { (i : Instance) (l : ℕ) → i.n ≡ self.old.n → KeepsTree i l self.old.nodes self.new.nodes }
+        ensures table { self.new ≡ record self.old {
+          nodes = split_at self.old.nodes node (branch_of branch);
+          room = self.old.room - 2;
+        } }
+        ensures keeps { (i : Instance) (l : ℕ) → i.n ≡ self.old.n
+            → KeepsTree i l self.old.nodes self.new.nodes }
     {
         tables_cover();
         tables_are_sound();
@@ -161,7 +168,7 @@ impl Tree {
         self.n
     }
 
-    /// The number of the node above one, and the condition on the way down from it. None is above the root.
+    /// The node above one, and the condition by which they differ. None is above the root.
     pub(crate) fn above(&self, node: u32) -> Option<(u32, Step<'_>)>
         requires { node < length self.now.nodes }
         ensures { MatchOption result (node ≡ 0) (λ a. IsAbove self.now.nodes node a.0 (condition_of a.1)) }

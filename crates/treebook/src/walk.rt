@@ -74,7 +74,8 @@ impl Tree {
     pub fn fits_at(&self, instance: &Instance, node: u32, closing: &Closing) -> Fit
         requires { node < length self.now.nodes }
         ensures fits { (result ≡ Fit.Fits) ↔ Fits instance.now.n (path_at self.now.nodes node) closing.now }
-        ensures misfit { (k : ℕ) → (result ≡ Fit.Misfit k) ↔ IsMisfit instance.now.n (path_at self.now.nodes node) closing.now k }
+        ensures misfit { (k : ℕ) → (result ≡ Fit.Misfit k)
+            ↔ IsMisfit instance.now.n (path_at self.now.nodes node) closing.now k }
     {
         fits_on(instance, self.trail(node), closing)
     }
@@ -86,7 +87,8 @@ impl Tree {
         requires closing { IsClosing instance.now.n (path_at self.now.nodes node) closing.now }
         ensures value { result ≡ defs.bound instance.now (path_at self.now.nodes node) closing.now }
         ensures size { IsWithin (2 ^ 110) result }
-        ensures below { (tour : List ℕ) → IsTourOf instance.now tour → Obeys (steps tour) (path_at self.now.nodes node) → result ≤ℤ pos (defs.scale * length_in instance.now tour) }
+        ensures below { (tour : List ℕ) → IsTourOf instance.now tour → Obeys (steps tour) (path_at self.now.nodes node)
+            → result ≤ℤ pos (defs.scale * length_in instance.now tour) }
     {
         bound_on(instance, self.trail(node), closing)
     }
@@ -152,7 +154,9 @@ impl Tree {
         requires within { node < length self.now.nodes }
         requires below { 0 < node }
         requires follows { MayFollow path.old.n path.old.conditions (own_condition self.now.nodes node) }
-        ensures { OnOk result (path.new ≡ record path.old { conditions = path.old.conditions ++ own_condition self.now.nodes node ∷ [] }) }
+        ensures { OnOk result (path.new ≡ record path.old {
+          conditions = path.old.conditions ++ own_condition self.now.nodes node ∷ [];
+        }) }
     {
         match self.above(node) {
             None => Ok(()),
