@@ -1,0 +1,11 @@
+pub mod HoldingLemmas
+pub mod DecidedLemmas
+pub mod SizeLemmas
+pub mod SetLemmas
+pub mod SumSteps
+pub mod TrailLemmas
+pub mod ListLemmas
+pub mod SpreadLemmas
+pub mod RowLemmas
+pub mod RingLemmas
+pub mod DegreeLemmas

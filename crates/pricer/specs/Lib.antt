@@ -1,0 +1,4 @@
+pub mod Sizes
+pub mod Trails
+pub mod Prices
+pub mod Rays

@@ -1,0 +1,17 @@
+//! Closings and their bounds.
+#![tactic(auto)]
+
+mod bounds;
+mod closing;
+mod decided;
+mod duals;
+mod fitting;
+mod numbers;
+mod rows;
+mod spread;
+mod trail;
+
+pub use bounds::{bound, bound_on, needed};
+pub use closing::{Closing, Report};
+pub use fitting::{Fit, fits, fits_on};
+pub use trail::{Step, Trail};

@@ -1,0 +1,4 @@
+pub mod Tables
+pub mod Laws
+pub mod Tree
+pub mod TreeInside
