@@ -1,18 +1,18 @@
-use Rattle.std.proofs.Common.{◌≡◌, ℕ, ◌+◌, ◌*◌, ◌^◌, ◌<◌, ◌≤◌, List, [], ◌∷◌, length, refl, sym, ◌∙◌, ap, arith, Some, None}
-use Rattle.std.specs.Prelude.{ℤ, pos, neg_ℤ, ◌+ℤ◌, ◌-ℤ◌, ◌≤ℤ◌}
+use Rattle.std.proofs.Common.{◌≡◌, ℕ, ◌^◌, ◌≤◌, List, ◌∙◌, ap, arith, Some, None}
+use Rattle.std.specs.Prelude.{ℤ, pos, ◌+ℤ◌}
 use Rattle.std.specs.Int.{int_min}
 use Rattle.std.proofs.lemmas.Int.{ints}
-use Rattle.tspdef.specs.Instances.{Instance, IsInstance, dist}
+use Rattle.tspdef.specs.Instances.{Instance, dist}
 use Rattle.tspdef.specs.Paths.{Condition}
 use Rattle.tspdef.specs.Closings.{Closing, IsClosing}
 use Rattle.tspdef.specs.Sums.{sum_below}
-use Rattle.tspdef.specs.Bounds.{scale, cut_rows, condition_rows, reduced_cost}
+use Rattle.tspdef.specs.Bounds.{cut_rows, condition_rows, reduced_cost}
 use Rattle.tspdef.proofs.SumLemmas.{sum_below-same}
 use Rattle.tspdef.proofs.Duality.{dist-sym}
 use Rattle.pricer.specs.Sizes.{IsWithin}
 use Rattle.pricer.specs.Prices.{held, price_of, shared_by, cost_of, at}
 use Rattle.pricer.proofs.HoldingLemmas.{price_split}
-use Rattle.pricer.proofs.SizeLemmas.{city_size, within_more}
+use Rattle.pricer.proofs.SizeLemmas.{city_size}
 use Rattle.pricer.proofs.SpreadLemmas.{held_cuts_size, held_conds_size}
 
 -- a reduced cost by the prices of the cities

@@ -1,5 +1,5 @@
 -- What the code keeps while it looks for a ray.
-use Rattle.std.specs.Prelude.{◌≡◌, ℕ, ◌+◌, ◌<◌, ◌≤◌, Bool, cond, ◌==◌, ◌||◌, List, length, slice_index, true, pos}
+use Rattle.std.specs.Prelude.{◌≡◌, ℕ, ◌<◌, ◌≤◌, cond, ◌==◌, ◌||◌, List, length, slice_index, true, pos}
 use Rattle.tspdef.specs.Sets.{has}
 use Rattle.tspdef.specs.Paths.{Condition, absent, present, two, four, is_present}
 use Rattle.tspdef.specs.Rays.{degree, IsClosedUnder}

@@ -42,12 +42,7 @@ pub fn ray(
     ray_of(alloc, instance.n(), path.conditions(), best)
 }
 
-fn ray_of(
-    alloc: Global,
-    n: u32,
-    conditions: &[Cond],
-    best: u64,
-) -> Result<Closing, AllocError>
+fn ray_of(alloc: Global, n: u32, conditions: &[Cond], best: u64) -> Result<Closing, AllocError>
     requires many { 3 ≤ n }
     requires few { n ≤ 2000 }
     requires is_path { IsPath n (conditions_of conditions.now) }
@@ -79,7 +74,7 @@ fn ray_of_enough(
 {
     match first_many(degrees) {
         Some(city) => city_closing(alloc, n, city, -large_dual(best)),
-        None => ray_of_cycles(alloc, n, conditions, degrees, best),
+        None => ray_of_cycles(alloc, n, conditions, best),
     }
 }
 
@@ -88,19 +83,15 @@ fn ray_of_cycles(
     alloc: Global,
     n: u32,
     conditions: &[Cond],
-    degrees: &[usize],
     best: u64,
 ) -> Result<Closing, AllocError>
     requires many { 3 ≤ n }
     requires few { n ≤ 2000 }
     requires is_path { IsPath n (conditions_of conditions.now) }
     requires best { best < 2 ^ 42 }
-    requires degrees { AreDegrees n (conditions_of conditions.now) degrees.now }
-    requires enough { (v : ℕ) → v < length degrees.now → 2 ≤ slice_index degrees.now v }
-    requires no_more { (v : ℕ) → v < length degrees.now → slice_index degrees.now v ≤ 2 }
+    requires pairs { (v : ℕ) → v < n → defs.degree n (conditions_of conditions.now) v ≡ pos 2 }
     ensures { IfOk result (defs.IsRay n (conditions_of conditions.now) best) }
 {
-    let _ = degrees;
     let cycle = first_cycle(alloc, n, conditions)?;
     if cycle.len() < n as usize {
         subtour_closing(alloc, n, cycle, large_dual(best) as u64)

@@ -1,4 +1,4 @@
-use Rattle.std.proofs.Common.{◌≡◌, ◌≤◌, ◌^◌, ◌*◌, arith, refl, sym, ap, ◌∙◌, pos}
+use Rattle.std.proofs.Common.{◌≤◌, ◌^◌, arith, refl, ap, ◌∙◌, pos}
 use Rattle.std.specs.Prelude.{ℤ}
 use Rattle.std.specs.Int.{int_min}
 use Rattle.std.proofs.Math.Nat.{mul-le-mul_left}

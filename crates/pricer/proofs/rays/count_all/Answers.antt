@@ -1,4 +1,4 @@
-use Rattle.std.proofs.Common.{◌≡◌, ◌≤◌, ℕ, pos, arith, ap, sym, ◌∙◌, subst, length, take, map, List}
+use Rattle.std.proofs.Common.{◌≡◌, pos, arith, ap, sym, ◌∙◌, subst, length, take, map, List}
 use Rattle.std.specs.Prelude.{slice_index}
 use Rattle.tspdef.specs.Paths.{Condition}
 use Rattle.tspdef.specs.Rays.{degree}
@@ -29,6 +29,6 @@ loop-condition-preserved c =
     let more = conds_more condition_of conds k x (omega arith) c.condition-item.is in
     record {
       so_far = λ v l. subst (λ (path : List Condition). pos (slice_index c.count.new.degrees v) ≡ degree c.args.n path v) (sym more)
-        (count_step c.args.n (map condition_of (take k conds)) (condition_of x) v (slice_index c.loop-condition.degrees v) (slice_index c.count.new.degrees v) follows (c.loop-condition.invariant.so_far v l) (c.count.ensures v));
+          (count_step c.args.n (map condition_of (take k conds)) (condition_of x) v (slice_index c.loop-condition.degrees v) (slice_index c.count.new.degrees v) follows (c.loop-condition.invariant.so_far v l) (c.count.ensures v));
       small = λ v. count_small (condition_of x) v (slice_index c.loop-condition.degrees v) (slice_index c.count.new.degrees v) k (c.loop-condition.invariant.small v) (c.count.ensures v);
     }

@@ -1,10 +1,10 @@
-use Rattle.std.proofs.Common.{◌≡◌, ℕ, arith, sym, subst, length, take, map, List}
+use Rattle.std.proofs.Common.{◌≡◌, arith, sym, subst, length, take, map, List}
 use Rattle.tspdef.specs.Paths.{Condition}
 use Rattle.branchx.specs.Cond.{condition_of}
 use Rattle.pricer.specs.Trails.{IsPairBelow}
 use Rattle.pricer.specs.Rays.{AreLabels}
 use Rattle.pricer.proofs.DecidedLemmas.{pair_follows}
-use Rattle.pricer.proofs.DegreeLemmas.{conds_more, conds_follow, labels_step, labels_none}
+use Rattle.pricer.proofs.DegreeLemmas.{conds_more, conds_follow, labels_step}
 use Rattle.pricer.proofs.rays.merge_all.Goals as goal
 
 pub merge-requires : goal.merge-requires

@@ -8,5 +8,5 @@ use Rattle.pricer.proofs.rays.ray_of_cycles.Goals as goal
 
 pub returns-else-len-n : goal.returns-else-len-n
 returns-else-len-n c = IfOk-weaker c.zero_closing.result (λ k. k ≡ zero_closing c.args.n) (IsRay c.args.n (conditions_of c.args.conditions.now) c.args.best)
-    (λ k e. tour_ray c.args.n (conditions_of c.args.conditions.now) c.args.degrees.now c.in_ok-cycle.cycle.items c.args.best k c.requires.many c.requires.is_path c.requires.degrees c.requires.enough c.requires.no_more c.in_ok-cycle.ensures (let long = c.len.ensures in omega arith) e)
+    (λ k e. tour_ray c.args.n (conditions_of c.args.conditions.now) c.in_ok-cycle.cycle.items c.args.best k c.requires.many c.requires.is_path c.requires.pairs c.in_ok-cycle.ensures (let long = c.len.ensures in omega arith) e)
     c.zero_closing.ensures
