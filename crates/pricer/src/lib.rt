@@ -6,6 +6,7 @@ mod closing;
 mod decided;
 mod duals;
 mod fitting;
+mod holding;
 mod numbers;
 mod rays;
 mod rows;
