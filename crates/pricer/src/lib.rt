@@ -3,6 +3,8 @@
 
 mod bounds;
 mod closing;
+#[cfg(test)]
+mod compared;
 mod decided;
 mod duals;
 mod fitting;
@@ -11,6 +13,8 @@ mod numbers;
 mod rays;
 mod rows;
 mod spread;
+#[cfg(test)]
+mod tests;
 mod trail;
 
 pub use bounds::{bound, bound_on, needed};

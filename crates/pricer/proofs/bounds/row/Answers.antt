@@ -1,4 +1,4 @@
-use Rattle.std.proofs.Common.{◌≡◌, ◌^◌, arith, ap, ◌∙◌, pos}
+use Rattle.std.proofs.Common.{◌^◌, arith, ap, ◌∙◌, pos}
 use Rattle.std.specs.Prelude.{ℤ}
 use Rattle.std.specs.Int.{int_min}
 use Rattle.tspdef.specs.Instances.{dist}
