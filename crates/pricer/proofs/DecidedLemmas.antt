@@ -1,12 +1,12 @@
 use Rattle.std.proofs.Common.{◌≡◌, ℕ, ◌^◌, ◌<◌, Bool, true, false, cond, ◌||◌, List, [], ◌∷◌, ◌++◌, refl, sym, ◌∙◌, ap, subst, arith, ⊎_elim}
 use Rattle.std.specs.Prelude.{ℤ, pos, neg_ℤ, ◌+ℤ◌, ◌-ℤ◌, min, max}
 use Rattle.std.specs.Int.{int_min}
-use Rattle.std.proofs.lemmas.Int.{ints, clamps}
-use Rattle.std.proofs.lemmas.Bool.{or_parts, or_from, cases_Bool, cond-true, cond-false}
+use Rattle.std.proofs.lemmas.Int.{ints}
+use Rattle.std.proofs.lemmas.Bool.{or_parts}
 use Rattle.std.proofs.lemmas.Bool.Decides.{nat_tests}
 use Rattle.std.proofs.lemmas.List.{append-nil, append_assoc}
 use Rattle.tspdef.specs.Tours.{joins}
-use Rattle.tspdef.specs.Paths.{Condition, absent, present, two, four, is_absent, is_present, is_decided, IsPair, MayFollow, ContinuesPath, IsPath}
+use Rattle.tspdef.specs.Paths.{Condition, absent, present, two, four, is_absent, is_present, is_decided, MayFollow, ContinuesPath, IsPath}
 use Rattle.tspdef.specs.Sums.{sum_pairs}
 use Rattle.tspdef.specs.Bounds.{pair_term, reduced_cost}
 use Rattle.tspdef.proofs.SumLemmas.{sum_pairs-same, sum_pairs-add, sum_pairs-at}

@@ -1,11 +1,10 @@
-use Rattle.std.proofs.Common.{◌≡◌, ℕ, ◌+◌, ◌*◌, ◌^◌, ◌≤◌, Bool, true, false, cond, not, List, [], ◌∷◌, ◌++◌, length, refl, ap, arith, Some, None, Option}
-use Rattle.std.specs.Prelude.{ℤ, pos, neg_ℤ, ◌+ℤ◌, ◌-ℤ◌, ◌≤ℤ◌}
-use Rattle.std.proofs.Math.Nat.{mul-le-mul_left}
+use Rattle.std.proofs.Common.{◌≡◌, ℕ, ◌+◌, ◌*◌, Bool, cond, not, List, [], ◌∷◌, refl, ap, arith, Some, None}
+use Rattle.std.specs.Prelude.{◌+ℤ◌, ◌-ℤ◌}
 use Rattle.std.proofs.lemmas.Int.{ints}
 use Rattle.tspdef.specs.Sets.{has}
 use Rattle.tspdef.specs.Cuts.{coefficient}
 use Rattle.tspdef.specs.Bounds.{Row, at_least, exactly, price}
-use Rattle.pricer.specs.Prices.{is_counted, holders, held}
+use Rattle.pricer.specs.Prices.{holders, held}
 
 crossed_once : (x y : Bool) → cond (cond x (not y) y) 1 0 + (cond x (cond y 1 0) 0 + cond x (cond y 1 0) 0) ≡ cond x 1 0 + cond y 1 0
 crossed_once x y = grind arith

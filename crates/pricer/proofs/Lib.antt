@@ -9,3 +9,4 @@ pub mod SpreadLemmas
 pub mod RowLemmas
 pub mod RingLemmas
 pub mod DegreeLemmas
+pub mod UnusedLemmas

@@ -3,15 +3,15 @@ use Rattle.std.proofs.Common.{◌≡◌, ℕ, zero, suc, ◌+◌, ◌-◌, ◌++
 use Rattle.std.specs.Prelude.{ℤ, pos, ◌+ℤ◌, ◌≤ℤ◌}
 use Rattle.std.specs.List.{AllByRecursion}
 use Rattle.std.proofs.lemmas.Int.{ints}
-use Rattle.std.proofs.lemmas.Bool.{cases_lt, cases_eq, cases_Bool, or_cases, or_parts, or_left, or_right, or_from, eqb-true, eqb-false, eq-eqb, ne_eqb, cond-true, cond-false, false_from_ne_true, true_from_ne_false}
+use Rattle.std.proofs.lemmas.Bool.{cases_lt, cases_eq, cases_Bool, or_cases, or_left, or_right, or_from, eqb-true, eq-eqb, ne_eqb, cond-true, cond-false, true_from_ne_false}
 use Rattle.std.proofs.lemmas.Bool.Decides.{nat_tests}
 use Rattle.tspdef.specs.Sets.{has, RisesFrom, IsSet}
 use Rattle.tspdef.specs.Tours.{joins, walk, steps, has_step, AreDistinct, IsTour}
 use Rattle.tspdef.specs.Paths.{Condition, absent, present, two, four, is_present, ContinuesPath, IsPath}
 use Rattle.tspdef.specs.Sums.{sum_below, sum_pairs}
-use Rattle.tspdef.specs.Rays.{degree, IsClosedUnder, IsReached, AreStepsOf}
-use Rattle.tspdef.proofs.SumLemmas.{sum_below-le, sum_below-add, sum_below-at, sum_below-same, sum_below-zero, sum_pairs-same, sum_pairs-zero}
-use Rattle.tspdef.proofs.Steps.{sum_list_is, count_le, ones, lacks, joins_is, has_step_swap, tour_has}
+use Rattle.tspdef.specs.Rays.{degree, IsReached, AreStepsOf}
+use Rattle.tspdef.proofs.SumLemmas.{sum_below-le, sum_below-add, sum_below-at, sum_below-same, sum_pairs-same, sum_pairs-zero}
+use Rattle.tspdef.proofs.Steps.{sum_list_is, ones, lacks, joins_is, has_step_swap, tour_has}
 use Rattle.pricer.proofs.DecidedLemmas.{is_present-swap}
 
 -- ---- the neighbours of a city
@@ -189,8 +189,8 @@ grow : (p : ℕ → ℕ → Bool) (sym_p : (u v : ℕ) → p u v ≡ p v u) (n k
 grow p sym_p n zero a bs e w = (a, (bs, record { is_walk = w; stuck = λ v l h. tour_has n (a ∷ bs) (record { all = omega arith; below = w.below; distinct = w.distinct }) v l }))
 grow p sym_p n (suc k) a bs e w = ⊎_elim
     (λ (v, m).
-      let t = step_test (p a v) (has (a ∷ bs) v) m.1 in
-      grow p sym_p n k v (a ∷ bs) (omega arith) (record { below = (m.0, w.below); distinct = (t.1, w.distinct); chain = (sym_p v a ∙ t.0, w.chain); home = w.home }))
+    let t = step_test (p a v) (has (a ∷ bs) v) m.1 in
+    grow p sym_p n k v (a ∷ bs) (omega arith) (record { below = (m.0, w.below); distinct = (t.1, w.distinct); chain = (sym_p v a ∙ t.0, w.chain); home = w.home }))
     (λ all. (a, (bs, record { is_walk = w; stuck = λ v l h. stay_test (p a v) (has (a ∷ bs) v) (all v l) h })))
     (missing (λ v. not (p a v) || has (a ∷ bs) v) n)
 
@@ -280,15 +280,15 @@ stuck_is_round p n a (b ∷ c ∷ ds) r s all =
     record {
       is_tour = record { all = whole n xs al d every; below = al; distinct = d };
       steps = λ u v lu lv. same_Bool (p u v) (has_step es u v)
-        (λ h.
+          (λ h.
           let f = beside u (every u lu) in
           true_from_ne_false (has_step es u v) (λ none.
-            let t = three (p u) n f.0 f.1.0 v (within n xs f.0 al f.1.1.1.1.1.0) (within n xs f.1.0 al f.1.1.1.1.1.1) lv f.1.1.1.1.0
-            (λ e. let y = subst (λ k. has_step es u k ≡ true) e f.1.1.0 in cc) (λ e. let y = subst (λ k. has_step es u k ≡ true) e f.1.1.1.0 in cc)
-            (along u f.0 f.1.1.0) (along u f.1.0 f.1.1.1.0) h in
-            let pair = r.pair u lu in
-            omega (arith, ints)))
-        (λ h. along u v h);
+          let t = three (p u) n f.0 f.1.0 v (within n xs f.0 al f.1.1.1.1.1.0) (within n xs f.1.0 al f.1.1.1.1.1.1) lv f.1.1.1.1.0
+          (λ e. let y = subst (λ k. has_step es u k ≡ true) e f.1.1.0 in cc) (λ e. let y = subst (λ k. has_step es u k ≡ true) e f.1.1.1.0 in cc)
+          (along u f.0 f.1.1.0) (along u f.1.0 f.1.1.1.0) h in
+          let pair = r.pair u lu in
+          omega (arith, ints)))
+          (λ h. along u v h);
     }
 
 -- ---- the pairs that a path uses
@@ -318,17 +318,17 @@ pairs_at : (p : ℕ → ℕ → Bool) (sym_p : (u v : ℕ) → p u v ≡ p v u) 
 pairs_at p sym_p never zero v h = absurd (omega arith)
 pairs_at p sym_p never (suc n) v h = ⊎_elim
     (λ l.
-      let ih = pairs_at p sym_p never n v l in
-      let here = sum_below-same (λ a. cond (p a n && (eqb a v || eqb n v)) (pos 1) (pos 0)) (λ a. cond (eqb v a) (cond (p a n) (pos 1) (pos 0)) (pos 0)) n (λ a m. ends_low (p a n) a n v (omega arith)) in
-      let one = sum_below-at (λ a. cond (p a n) (pos 1) (pos 0)) v n l in
-      omega (arith, ints))
+    let ih = pairs_at p sym_p never n v l in
+    let here = sum_below-same (λ a. cond (p a n && (eqb a v || eqb n v)) (pos 1) (pos 0)) (λ a. cond (eqb v a) (cond (p a n) (pos 1) (pos 0)) (pos 0)) n (λ a m. ends_low (p a n) a n v (omega arith)) in
+    let one = sum_below-at (λ a. cond (p a n) (pos 1) (pos 0)) v n l in
+    omega (arith, ints))
     (λ l.
-      let e : n ≡ v = omega arith in
-      let before = sum_pairs-same (λ a b. cond (p a b && (eqb a v || eqb b v)) (pos 1) (pos 0)) (λ a b. pos 0) n (λ a b m q. ends_none (p a b) a b v (omega arith) (omega arith)) in
-      let none = sum_pairs-zero n in
-      let here = sum_below-same (λ a. cond (p a n && (eqb a v || eqb n v)) (pos 1) (pos 0)) (λ a. cond (p v a) (pos 1) (pos 0)) n (λ a m. ends_high (p a n) (p v a) a n v e (sym_p a n ∙ ap (λ k. p k a) e)) in
-      let last : cond (p v n) (pos 1) (pos 0) ≡ pos 0 = cond-false _ _ _ (ap (p v) e ∙ never v) in
-      omega (arith, ints))
+    let e : n ≡ v = omega arith in
+    let before = sum_pairs-same (λ a b. cond (p a b && (eqb a v || eqb b v)) (pos 1) (pos 0)) (λ a b. pos 0) n (λ a b m q. ends_none (p a b) a b v (omega arith) (omega arith)) in
+    let none = sum_pairs-zero n in
+    let here = sum_below-same (λ a. cond (p a n && (eqb a v || eqb n v)) (pos 1) (pos 0)) (λ a. cond (p v a) (pos 1) (pos 0)) n (λ a m. ends_high (p a n) (p v a) a n v e (sym_p a n ∙ ap (λ k. p k a) e)) in
+    let last : cond (p v n) (pos 1) (pos 0) ≡ pos 0 = cond-false _ _ _ (ap (p v) e ∙ never v) in
+    omega (arith, ints))
     (cases_lt v n)
 
 two_regular : (n : ℕ) (path : List Condition) → IsPath n path → ((v : ℕ) → v < n → degree n path v ≡ pos 2) → IsTwoRegular (is_present path) n

@@ -1,18 +1,18 @@
-use Rattle.std.proofs.Common.{◌≡◌, ℕ, ◌+◌, ◌*◌, ◌^◌, ◌<◌, ◌≤◌, List, [], ◌∷◌, length, refl, sym, ◌∙◌, ap, arith, Some, None}
-use Rattle.std.specs.Prelude.{ℤ, pos, neg_ℤ, ◌+ℤ◌, ◌-ℤ◌, ◌≤ℤ◌}
+use Rattle.std.proofs.Common.{◌≡◌, ℕ, ◌^◌, ◌≤◌, List, ◌∙◌, ap, sym, arith, Some, None}
+use Rattle.std.specs.Prelude.{ℤ, pos, ◌+ℤ◌}
 use Rattle.std.specs.Int.{int_min}
 use Rattle.std.proofs.lemmas.Int.{ints}
-use Rattle.tspdef.specs.Instances.{Instance, IsInstance, dist}
+use Rattle.tspdef.specs.Instances.{Instance, dist}
 use Rattle.tspdef.specs.Paths.{Condition}
 use Rattle.tspdef.specs.Closings.{Closing, IsClosing}
 use Rattle.tspdef.specs.Sums.{sum_below}
-use Rattle.tspdef.specs.Bounds.{scale, cut_rows, condition_rows, reduced_cost}
+use Rattle.tspdef.specs.Bounds.{cut_rows, condition_rows, reduced_cost}
 use Rattle.tspdef.proofs.SumLemmas.{sum_below-same}
 use Rattle.tspdef.proofs.Duality.{dist-sym}
 use Rattle.pricer.specs.Sizes.{IsWithin}
 use Rattle.pricer.specs.Prices.{held, price_of, shared_by, cost_of, at}
 use Rattle.pricer.proofs.HoldingLemmas.{price_split}
-use Rattle.pricer.proofs.SizeLemmas.{city_size, within_more}
+use Rattle.pricer.proofs.SizeLemmas.{city_size}
 use Rattle.pricer.proofs.SpreadLemmas.{held_cuts_size, held_conds_size}
 
 -- a reduced cost by the prices of the cities
@@ -55,4 +55,14 @@ row_sum i path c price own v p s = sum_below-same _ _ v (λ u l. ap (int_min (po
     ap (λ (x : ℤ). cost_of (dist i v u) x (at price u) (at own u)) (p v)
     ∙ ap (λ (x : ℤ). cost_of (dist i v u) (price_of path c v) x (at own u)) (p u)
     ∙ ap (λ (x : ℤ). cost_of (dist i v u) (price_of path c v) (price_of path c u) x) (s u)
+    ∙ reduced_split i path c u v))
+
+-- the row of a city that no set holds
+pub bare_row_sum : (i : Instance) (path : List Condition) (c : Closing) (price : List ℤ) (v : ℕ)
+    → ((k : ℕ) → at price k ≡ price_of path c k) → ((k : ℕ) → shared_by path c v k ≡ pos 0)
+    → sum_below (λ u. int_min (pos 0) (cost_of (dist i v u) (at price v) (at price u) (pos 0))) v ≡ sum_below (λ u. int_min (pos 0) (reduced_cost i path c u v)) v
+bare_row_sum i path c price v p s = sum_below-same _ _ v (λ u l. ap (int_min (pos 0)) (
+    ap (λ (x : ℤ). cost_of (dist i v u) x (at price u) (pos 0)) (p v)
+    ∙ ap (λ (x : ℤ). cost_of (dist i v u) (price_of path c v) x (pos 0)) (p u)
+    ∙ ap (λ (x : ℤ). cost_of (dist i v u) (price_of path c v) (price_of path c u) x) (sym (s u))
     ∙ reduced_split i path c u v))

@@ -1,5 +1,5 @@
-use Rattle.std.proofs.Common.{◌≡◌, ℕ, zero, suc, ◌+◌, ◌*◌, ◌^◌, ◌<◌, ◌≤◌, Bool, true, false, cond, List, [], ◌∷◌, length, refl, sym, ◌∙◌, ap, subst, arith}
-use Rattle.std.specs.Prelude.{ℤ, pos, negsuc, neg_ℤ, nat_abs, ◌+ℤ◌, ◌-ℤ◌, ◌≤ℤ◌, Option, Some, None, slice_get, slice_index_or}
+use Rattle.std.proofs.Common.{◌≡◌, ℕ, zero, suc, ◌+◌, ◌*◌, ◌^◌, ◌<◌, ◌≤◌, cond, List, [], ◌∷◌, length, arith}
+use Rattle.std.specs.Prelude.{ℤ, pos, negsuc, nat_abs, ◌+ℤ◌, ◌≤ℤ◌, Option, Some, None, slice_index_or}
 use mir.Syntax.{w128}
 use mir.Val.{SFits, to_z, of_z}
 use Rattle.std.specs.Int.{int_min}
@@ -10,11 +10,11 @@ use Rattle.std.proofs.lemmas.Bool.{cond_both}
 use Rattle.tspdef.specs.Tours.{crosses}
 use Rattle.tspdef.specs.Sets.{has}
 use Rattle.tspdef.specs.Instances.{Instance, IsInstance, dist}
-use Rattle.tspdef.specs.Cuts.{Cut, IsCut, coefficient, sets_of, right_side}
+use Rattle.tspdef.specs.Cuts.{Cut, IsCut, coefficient, right_side}
 use Rattle.tspdef.specs.Paths.{Condition, absent, present, two, four, is_absent, is_present, condition_at}
 use Rattle.tspdef.specs.Closings.{Closing, IsDualSize, IsClosing}
 use Rattle.tspdef.specs.Sums.{sum_below, sum_pairs}
-use Rattle.tspdef.specs.Bounds.{scale, Row, at_least, exactly, cut_rows, condition_row, condition_rows, price, worth, city_dual, reduced_cost, pair_term, bound}
+use Rattle.tspdef.specs.Bounds.{Row, at_least, exactly, cut_rows, condition_row, condition_rows, price, worth, city_dual, reduced_cost, pair_term, bound}
 use Rattle.tspdef.proofs.SmallCuts.{cuts_are_small}
 use Rattle.pricer.specs.Sizes.{IsWithin}
 

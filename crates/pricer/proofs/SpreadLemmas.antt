@@ -1,11 +1,10 @@
-use Rattle.std.proofs.Common.{◌≡◌, ℕ, zero, suc, ◌+◌, ◌*◌, ◌^◌, ◌<◌, ◌≤◌, Bool, true, false, cond, List, [], ◌∷◌, ◌++◌, length, map, refl, sym, ◌∙◌, ap, subst, arith}
-use Rattle.std.specs.Prelude.{ℤ, pos, neg_ℤ, ◌+ℤ◌, ◌-ℤ◌, ◌≤ℤ◌, Option, Some, None}
+use Rattle.std.proofs.Common.{◌≡◌, ℕ, ◌+◌, ◌*◌, ◌^◌, ◌≤◌, Bool, true, false, cond, List, [], ◌∷◌, ◌++◌, length, refl, sym, arith}
+use Rattle.std.specs.Prelude.{ℤ, pos, neg_ℤ, ◌+ℤ◌, ◌-ℤ◌, Option, Some, None}
 use Rattle.std.specs.List.{AllByRecursion}
-use Rattle.std.proofs.Math.Nat.{mul-le-mul}
 use Rattle.std.proofs.lemmas.Int.{ints}
 use Rattle.std.proofs.lemmas.Bool.{cond_both}
 use Rattle.tspdef.specs.Sets.{has, RisesFrom, IsSet, IsProper}
-use Rattle.tspdef.specs.Cuts.{Cut, subtour, comb, IsCut, IsTooth, sets_of, right_side}
+use Rattle.tspdef.specs.Cuts.{Cut, subtour, comb, IsCut, IsTooth, sets_of}
 use Rattle.tspdef.specs.Paths.{Condition, absent, present, two, four, condition_at}
 use Rattle.tspdef.specs.Closings.{IsDualSize}
 use Rattle.tspdef.specs.Bounds.{Row, at_least, exactly, cut_rows, condition_row, condition_rows}

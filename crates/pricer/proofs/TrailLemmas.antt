@@ -1,7 +1,7 @@
-use Rattle.std.proofs.Common.{◌≡◌, ℕ, zero, suc, ◌+◌, ◌-◌, ◌<◌, ◌≤◌, List, [], ◌∷◌, ◌++◌, length, map, take, drop, get_or, refl, sym, ◌∙◌, ap, subst, arith, ⊎_elim}
-use Rattle.std.specs.Prelude.{slice_get, Option, Some, None}
+use Rattle.std.proofs.Common.{◌≡◌, ℕ, zero, suc, ◌+◌, ◌<◌, List, [], ◌∷◌, ◌++◌, length, map, take, drop, get_or, sym, ◌∙◌, ap, subst, arith, ⊎_elim}
+use Rattle.std.specs.Prelude.{slice_get}
 use Rattle.std.proofs.lemmas.Bool.{cases_lt}
-use Rattle.std.proofs.lemmas.List.{take_all, take-take, take-map, map_more, length-take-le, take-append-drop, length-map}
+use Rattle.std.proofs.lemmas.List.{take_all, take-take, take-map, map_more, length-take-le, take-append-drop}
 use Rattle.tspdef.specs.Paths.{Condition, absent, present, two, four, ContinuesPath, IsPath, condition_at}
 use Rattle.pricer.specs.Trails.{IsFront, HasProperSet}
 

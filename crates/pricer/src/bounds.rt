@@ -19,8 +19,9 @@ ghost use Rattle.pricer.specs.Prices.{at, price_of, shared_by, terms};
 use crate::closing::Closing;
 use crate::decided::changes;
 use crate::duals::{city_sum, cliques_worth, cuts_worth};
+use crate::holding::is_held;
 use crate::numbers::{SCALE, signed};
-use crate::rows::row_loss;
+use crate::rows::{bare_row_loss, row_loss};
 use crate::spread::{spread_cliques, spread_cuts};
 use crate::trail::{Front, Trail};
 use branchx::Path;
@@ -156,8 +157,32 @@ fn rows<'a, T: Trail<'a>>(instance: &Instance, trail: T, closing: &Closing, pric
     total
 }
 
-/// How far the pairs of a city with a lower one are below 0.
+/// How far the pairs of a city with a lower one are below 0. Most rows of a closing with few cuts need no second array.
 fn row<'a, T: Trail<'a>>(
+    instance: &Instance,
+    trail: T,
+    closing: &Closing,
+    price: &[i128],
+    v: u32,
+) -> u128
+    requires cities { T.cities trail ≡ instance.now.n }
+    requires few { instance.now.n ≤ 2000 }
+    requires closing { IsClosing instance.now.n (T.conditions trail) closing.now }
+    requires long { instance.now.n ≤ length price.now }
+    requires price { (c : ℕ) → at price.now c ≡ price_of (T.conditions trail) closing.now c }
+    requires city { v < instance.now.n }
+    ensures value { neg_ℤ (pos result) ≡ sum_below (λ u. int_min (pos 0) (defs.reduced_cost instance.now (T.conditions trail) closing.now u v)) v }
+    ensures size { result ≤ 2 ^ 103 * 2000 }
+{
+    if is_held(trail, closing, v) {
+        shared_row(instance, trail, closing, price, v)
+    } else {
+        bare_row_loss(instance, v, price[v as usize], price)
+    }
+}
+
+/// The same for a city that a set holds.
+fn shared_row<'a, T: Trail<'a>>(
     instance: &Instance,
     trail: T,
     closing: &Closing,

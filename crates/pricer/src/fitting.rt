@@ -33,6 +33,7 @@ pub enum Fit {
 pub fn fits(instance: &Instance, path: &Path, closing: &Closing) -> Fit
     ensures fits { (result ≡ Fit.Fits) ↔ defs.Fits instance.now.n path.now.conditions closing.now }
     ensures misfit { (k : ℕ) → (result ≡ Fit.Misfit k) ↔ defs.IsMisfit instance.now.n path.now.conditions closing.now k }
+    ensures closing { result ≡ Fit.Fits → defs.IsClosing instance.now.n path.now.conditions closing.now }
 {
     fits_on(instance, Front::whole(path), closing)
 }
@@ -41,6 +42,7 @@ pub fn fits(instance: &Instance, path: &Path, closing: &Closing) -> Fit
 pub fn fits_on<'a, T: Trail<'a>>(instance: &Instance, trail: T, closing: &Closing) -> Fit
     ensures fits { (result ≡ Fit.Fits) ↔ defs.Fits instance.now.n (T.conditions trail) closing.now }
     ensures misfit { (k : ℕ) → (result ≡ Fit.Misfit k) ↔ defs.IsMisfit instance.now.n (T.conditions trail) closing.now k }
+    ensures closing { result ≡ Fit.Fits → defs.IsClosing instance.now.n (T.conditions trail) closing.now }
 {
     let n = instance.n();
     if !has_counts(n, closing) {

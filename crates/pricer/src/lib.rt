@@ -3,15 +3,22 @@
 
 mod bounds;
 mod closing;
+#[cfg(test)]
+mod compared;
 mod decided;
 mod duals;
 mod fitting;
+mod holding;
 mod numbers;
+mod rays;
 mod rows;
 mod spread;
+#[cfg(test)]
+mod tests;
 mod trail;
 
 pub use bounds::{bound, bound_on, needed};
 pub use closing::{Closing, Report};
 pub use fitting::{Fit, fits, fits_on};
+pub use rays::ray;
 pub use trail::{Step, Trail};

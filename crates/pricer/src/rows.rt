@@ -8,7 +8,7 @@ ghost use Rattle.tspdef.specs.Instances.{dist};
 ghost use Rattle.pricer.specs.Sizes.{IsWithin};
 ghost use Rattle.pricer.specs.Prices.{at, cost_of};
 
-use crate::numbers::{below_zero, cost};
+use crate::numbers::{below_zero, cost, less};
 use tspinst::Instance;
 
 /// Adds a number at each of some cities.
@@ -57,4 +57,35 @@ pub fn row_loss(instance: &Instance, v: u32, base: i128, price: &[i128], own: &[
         total += pair_loss(instance, v, base, price, own, u);
     }
     total
+}
+
+/// How far the pairs of a city that shares no number are below 0.
+pub fn bare_row_loss(instance: &Instance, v: u32, base: i128, price: &[i128]) -> u128
+    requires city { v < instance.now.n }
+    requires few { instance.now.n ≤ 2000 }
+    requires price_len { instance.now.n ≤ length price.now }
+    requires base { IsWithin (2 ^ 100) base }
+    requires price { (c : ℕ) → IsWithin (2 ^ 100) (at price.now c) }
+    ensures value { neg_ℤ (pos result) ≡ sum_below (λ u. int_min (pos 0) (cost_of (dist instance.now v u) base (at price.now u) (pos 0))) v }
+    ensures size { result ≤ 2 ^ 103 * v }
+{
+    let mut total: u128 = 0;
+    for u in 0..v {
+        total += bare_pair_loss(instance, v, base, price, u);
+    }
+    total
+}
+
+/// How far a pair that shares no number is below 0.
+#[inline]
+fn bare_pair_loss(instance: &Instance, v: u32, base: i128, price: &[i128], u: u32) -> u128
+    requires from { v < instance.now.n }
+    requires to { u < instance.now.n }
+    requires price_len { instance.now.n ≤ length price.now }
+    requires base { IsWithin (2 ^ 100) base }
+    requires price { IsWithin (2 ^ 100) (at price.now u) }
+    ensures value { neg_ℤ (pos result) ≡ int_min (pos 0) (cost_of (dist instance.now v u) base (at price.now u) (pos 0)) }
+    ensures size { result ≤ 2 ^ 103 }
+{
+    below_zero(less(instance.d(v, u), base, price[u as usize]))
 }

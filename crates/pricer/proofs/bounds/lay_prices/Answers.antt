@@ -1,4 +1,4 @@
-use Rattle.std.proofs.Common.{◌≡◌, ◌^◌, arith, refl, sym, ◌∙◌, pos, None}
+use Rattle.std.proofs.Common.{◌^◌, arith, refl, sym, ◌∙◌, None}
 use Rattle.pricer.specs.Sizes.{IsWithin}
 use Rattle.pricer.specs.Prices.{at}
 use Rattle.pricer.proofs.SizeLemmas.{city_size}

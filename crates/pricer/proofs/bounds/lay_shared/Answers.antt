@@ -1,4 +1,4 @@
-use Rattle.std.proofs.Common.{◌≡◌, ◌^◌, arith, refl, sym, ◌∙◌, pos, Some}
+use Rattle.std.proofs.Common.{◌^◌, arith, refl, sym, ◌∙◌, Some}
 use Rattle.pricer.specs.Sizes.{IsWithin}
 use Rattle.pricer.specs.Prices.{at}
 use Rattle.pricer.proofs.SizeLemmas.{within_zero}

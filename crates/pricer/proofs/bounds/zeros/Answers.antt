@@ -1,5 +1,5 @@
-use Rattle.std.proofs.Common.{◌≡◌, ◌<◌, ◌≤◌, ℕ, pos, arith, ⊎_elim, refl, length, get_or, subst, sym}
-use Rattle.std.specs.Prelude.{ℤ, replicate}
+use Rattle.std.proofs.Common.{◌≡◌, ◌≤◌, ℕ, pos, ⊎_elim, get_or, subst, sym}
+use Rattle.std.specs.Prelude.{replicate}
 use Rattle.std.proofs.lemmas.Bool.{cases_lt}
 use Rattle.std.proofs.lemmas.List.{get_or-replicate, get_or_past, length-replicate}
 use Rattle.pricer.proofs.bounds.zeros.Goals as goal

@@ -1,8 +1,7 @@
-use Rattle.std.proofs.Common.{◌≡◌, arith, subst, List, refl}
+use Rattle.std.proofs.Common.{arith, subst, List, refl}
 use Rattle.std.proofs.lemmas.Int.{ints}
 use Rattle.tspdef.specs.Paths.{Condition, IsPath}
 use Rattle.tspdef.specs.Bounds.{reduced_cost}
-use Rattle.pricer.specs.Prices.{terms}
 use Rattle.pricer.specs.Trails.{condition_of}
 use Rattle.pricer.proofs.DecidedLemmas.{path_front, pair_follows, changes_size, changes_step}
 use Rattle.pricer.proofs.decided.changes.Goals as goal

@@ -1,4 +1,3 @@
-use Rattle.std.proofs.Common.{◌≡◌}
 use Rattle.pricer.proofs.decided.reduced_cost.Goals as goal
 
 pub cuts_price-requires-clause-cuts : goal.cuts_price-requires-clause-cuts

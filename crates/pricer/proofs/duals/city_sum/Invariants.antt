@@ -1,4 +1,4 @@
-use Rattle.std.proofs.Common.{◌≡◌, ◌+◌, ◌*◌, ◌^◌, ◌≤◌, length, pos, neg_ℤ, ◌+ℤ◌, ◌-ℤ◌, ◌≤ℤ◌}
+use Rattle.std.proofs.Common.{◌≡◌, ◌*◌, ◌^◌, pos, neg_ℤ, ◌≤ℤ◌}
 use Rattle.tspdef.specs.Sums.{sum_below}
 use Rattle.tspdef.specs.Bounds as defs
 use Rattle.pricer.proofs.duals.city_sum.Given as goal

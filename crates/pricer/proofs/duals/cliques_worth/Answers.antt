@@ -1,4 +1,4 @@
-use Rattle.std.proofs.Common.{ℕ, arith, subst, refl, sym, ap, ◌∙◌}
+use Rattle.std.proofs.Common.{ℕ, arith, subst, refl}
 use Rattle.std.specs.List.{AllByRecursion}
 use Rattle.std.proofs.lemmas.Int.{ints}
 use Rattle.tspdef.specs.Closings.{IsDualSize}

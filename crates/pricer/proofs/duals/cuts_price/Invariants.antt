@@ -1,4 +1,4 @@
-use Rattle.std.proofs.Common.{◌≡◌, ◌+◌, ◌*◌, ◌^◌, ◌≤◌, length, pos, neg_ℤ, ◌+ℤ◌, ◌-ℤ◌, ◌≤ℤ◌}
+use Rattle.std.proofs.Common.{◌≡◌, ◌+◌, ◌*◌, ◌^◌, ◌≤◌, length, pos, ◌+ℤ◌}
 use Rattle.std.specs.List.{AllByRecursion}
 use Rattle.tspdef.specs.Closings.{IsDualSize}
 use Rattle.tspdef.specs.Cuts.{IsCut}

@@ -1,6 +1,4 @@
-use Rattle.std.proofs.Common.{subst, sym, ◌↔◌, ◌≡◌, true, IsTrue, List, ℕ, ◌++◌, ◌∷◌, []}
-use Rattle.std.specs.Prelude.{Option}
-use Rattle.std.specs.List.{AllByRecursion}
+use Rattle.std.proofs.Common.{subst, sym, ◌↔◌, ◌≡◌, List, ℕ, ◌++◌, ◌∷◌, []}
 use Rattle.tspdef.specs.Paths.{Condition, IsClique, condition_at}
 use Rattle.tspdef.specs.Closings as defs
 use Rattle.pricer.proofs.ListLemmas.{all_push, all_front}

@@ -1,7 +1,7 @@
-use Rattle.std.proofs.Common.{◌≡◌, ◌<◌, ◌≤◌, ◌^◌, ◌+◌, Bool, true, false, ℕ, length, cond, pos, ◌+ℤ◌, get_or, take, ⊎_elim, arith, sym, subst, ◌∙◌, ap, ◌||◌, eqb, refl, List}
+use Rattle.std.proofs.Common.{◌≡◌, ◌<◌, ◌^◌, ◌+◌, Bool, true, false, ℕ, length, cond, pos, ◌+ℤ◌, get_or, take, ⊎_elim, arith, sym, subst, ◌∙◌, ap, ◌||◌, eqb, refl, List}
 use mir.Syntax.{w128}
 use mir.Val.{to_z, of_z}
-use Rattle.std.specs.Prelude.{slice_set, slice_index, slice_index_or, ℤ}
+use Rattle.std.specs.Prelude.{slice_set, ℤ}
 use Rattle.std.proofs.lemmas.Int.{ints}
 use Rattle.std.proofs.lemmas.Bool.{cases_eq, eq-eqb, ne_eqb, cond-false, cond-true}
 use Rattle.std.proofs.lemmas.List.{get_or-set_same, get_or-set_other}

@@ -1,4 +1,4 @@
-use Rattle.std.proofs.Common.{◌≡◌, ℕ, length, cond, pos, ◌+ℤ◌, take}
+use Rattle.std.proofs.Common.{◌≡◌, ℕ, cond, pos, ◌+ℤ◌, take}
 use Rattle.tspdef.specs.Sets.{has}
 use Rattle.pricer.specs.Prices.{at}
 use Rattle.pricer.proofs.rows.add_at.Given as goal

@@ -1,10 +1,9 @@
-use Rattle.std.proofs.Common.{◌≡◌, ◌≤◌, ◌^◌, ℕ, length, pos, ◌+ℤ◌, arith, List, ◌∷◌}
+use Rattle.std.proofs.Common.{◌≡◌, ℕ, length, pos, ◌+ℤ◌, arith, List, ◌∷◌}
 use Rattle.std.specs.Prelude.{ℤ}
 use Rattle.std.proofs.lemmas.Int.{ints}
 use Rattle.std.proofs.lemmas.List.{length-map}
 use Rattle.cyc.specs.CitySet.{Members}
 use Rattle.cutform.specs.Cut.{cities_of_each}
-use Rattle.pricer.specs.Sizes.{IsWithin}
 use Rattle.pricer.specs.Prices.{at, laid, laid_one}
 use Rattle.pricer.proofs.SpreadLemmas.{sets_number_size}
 use Rattle.pricer.proofs.spread.raise_each.Goals as goal

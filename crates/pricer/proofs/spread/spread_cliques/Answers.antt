@@ -1,11 +1,10 @@
-use Rattle.std.proofs.Common.{◌≡◌, ◌≤◌, ℕ, length, ◌+ℤ◌, arith, subst, List, ◌++◌, ◌∷◌, []}
+use Rattle.std.proofs.Common.{◌≡◌, ℕ, length, ◌+ℤ◌, arith, subst, List, ◌++◌, ◌∷◌, []}
 use Rattle.std.specs.Prelude.{ℤ, Option}
 use Rattle.std.specs.List.{AllByRecursion}
 use Rattle.std.proofs.lemmas.Int.{ints}
 use Rattle.tspdef.specs.Closings.{IsDualSize}
 use Rattle.tspdef.specs.Paths.{Condition, condition_at}
 use Rattle.tspdef.specs.Bounds.{condition_row, condition_rows}
-use Rattle.pricer.specs.Trails.{HasProperSet}
 use Rattle.pricer.specs.Prices.{at, held}
 use Rattle.pricer.proofs.ListLemmas.{all_front, all_last}
 use Rattle.pricer.proofs.SpreadLemmas.{conds_number_size, held_last, proper_set_wider}

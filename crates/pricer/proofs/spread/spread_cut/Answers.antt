@@ -1,4 +1,4 @@
-use Rattle.std.proofs.Common.{◌≡◌, ◌≤◌, ℕ, length, pos, ◌+ℤ◌, arith, ap, sym, ◌∙◌, List}
+use Rattle.std.proofs.Common.{◌≡◌, ℕ, length, pos, ◌+ℤ◌, arith, ap, sym, ◌∙◌, List}
 use Rattle.std.specs.Prelude.{ℤ}
 use Rattle.std.proofs.lemmas.List.{length-map}
 use Rattle.tspdef.specs.Cuts.{sets_of}

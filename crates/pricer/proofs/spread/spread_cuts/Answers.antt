@@ -1,5 +1,4 @@
-use Rattle.std.proofs.Common.{◌≡◌, ◌≤◌, ℕ, length, ◌+ℤ◌, arith}
-use Rattle.pricer.specs.Prices.{at, held}
+use Rattle.pricer.specs.Prices.{at}
 use Rattle.pricer.proofs.SpreadLemmas.{cuts_number_size}
 use Rattle.pricer.proofs.spread.spread_cuts.Goals as goal
 

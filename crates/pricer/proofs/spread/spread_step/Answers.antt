@@ -1,8 +1,6 @@
-use Rattle.std.proofs.Common.{◌≡◌, ℕ, ◌+ℤ◌, ap, sym, ◌∙◌, ◌∷◌, []}
-use Rattle.std.specs.Prelude.{ℤ, Some}
-use Rattle.tspdef.specs.Bounds.{condition_row}
-use Rattle.pricer.specs.Trails.{condition_of}
-use Rattle.pricer.specs.Prices.{at, held}
+use Rattle.std.proofs.Common.{◌+ℤ◌, ap, sym, ◌∙◌}
+use Rattle.std.specs.Prelude.{ℤ}
+use Rattle.pricer.specs.Prices.{at}
 use Rattle.pricer.proofs.SpreadLemmas.{held_two}
 use Rattle.pricer.proofs.spread.spread_step.Goals as goal
 

@@ -1,6 +1,4 @@
-use Rattle.std.proofs.Common.{ℕ, subst, sym, ap, List}
-use Rattle.tspdef.specs.Paths.{Condition, condition_at}
-use Rattle.pricer.specs.Trails.{IsFront, HasProperSet}
+use Rattle.pricer.specs.Trails.{IsFront}
 use Rattle.pricer.proofs.TrailLemmas.{proper_at, whole_front, take_front}
 use Rattle.pricer.proofs.trail.step_at.Goals as goal
 use Rattle.pricer.proofs.trail.step_at.Goals.{then-place-depth, else-place-depth}

@@ -1,5 +1,3 @@
-use Rattle.std.proofs.Common.{subst, sym}
-use Rattle.tspdef.specs.Paths.{IsPath}
 use Rattle.pricer.proofs.TrailLemmas.{path_take}
 use Rattle.pricer.proofs.trail.FrontTrail.n.Goals as goal
 

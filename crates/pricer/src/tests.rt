@@ -1,0 +1,297 @@
+//! The worked values, and one call of each public function.
+
+ghost use Rattle.std.specs.Prelude.{◌≡◌, ℕ, ◌^◌, ◌<◌, ◌≤◌, false, true, IsTrue, IfOk};
+ghost use Rattle.tspdef.specs.Paths.{DecidesAll, is_decided, is_present};
+
+use crate::{Closing, Fit, Report, bound, fits, needed, ray};
+use branchx::{Branch, Cond, Path, decided};
+use cutform::Cut;
+use cyc::CitySet;
+use distx::{Kind, Point};
+use std::alloc::Global;
+use std::process::Abort;
+use std::test::Fail;
+use tspinst::{Instance, from_points};
+
+/// Points (0, 0), (3, 0), (0, 4).
+fn triangle(alloc: Global) -> Result<Instance, Fail> {
+    let points = [Point::new(0, 0), Point::new(3, 0), Point::new(0, 4)];
+    Ok(from_points(alloc, Kind::Euc, &points)?)
+}
+
+/// Two triangles of side 1, far apart.
+fn two_triangles(alloc: Global) -> Result<Instance, Fail> {
+    let points = [
+        Point::new(0, 0),
+        Point::new(1, 0),
+        Point::new(0, 1),
+        Point::new(100, 0),
+        Point::new(101, 0),
+        Point::new(100, 1),
+    ];
+    Ok(from_points(alloc, Kind::Max, &points)?)
+}
+
+fn set(alloc: Global, n: u32, cities: &[u32]) -> Result<CitySet, Fail> {
+    if n < 3 || n > 2000 {
+        return Err("a bad number of cities".into());
+    }
+    Ok(CitySet::new(alloc, n, Vec::from_slice(alloc, cities)?)?)
+}
+
+fn subtour(alloc: Global, n: u32, cities: &[u32]) -> Result<Cut, Fail> {
+    Ok(Cut::subtour(alloc, set(alloc, n, cities)?)?)
+}
+
+fn absent(path: &mut Path, u: u32, v: u32) -> Result<(), Fail> {
+    if u >= v || v >= path.n() || decided(path, u, v) {
+        return Err("not an open pair".into());
+    }
+    Ok(path.push(Cond::Absent(u, v))?)
+}
+
+fn present(path: &mut Path, u: u32, v: u32) -> Result<(), Fail> {
+    if u >= v || v >= path.n() || decided(path, u, v) {
+        return Err("not an open pair".into());
+    }
+    Ok(path.push(Cond::Present(u, v))?)
+}
+
+fn twice(path: &mut Path, set: CitySet) -> Result<(), Fail> {
+    if set.n() != path.n() || !set.is_proper() {
+        return Err("not a proper set".into());
+    }
+    Ok(path.push(Cond::Two(set))?)
+}
+
+/// Whether each pair of the city and a lower one is decided.
+fn decides_row(path: &Path, v: u32) -> bool
+    ensures { IsTrue result → (u : ℕ) → u < v → is_decided path.now.conditions u v ≡ true }
+{
+    for u in 0..v {
+        if !decided(path, u, v) {
+            return false;
+        }
+    }
+    true
+}
+
+fn decides_all(path: &Path) -> bool
+    ensures { IsTrue result → DecidesAll path.now.n path.now.conditions }
+{
+    for v in 0..path.n() {
+        if !decides_row(path, v) {
+            return false;
+        }
+    }
+    true
+}
+
+/// The ray of a path that uses no pair.
+fn ray_of_nothing(
+    rt: &impl Abort,
+    alloc: Global,
+    instance: &Instance,
+    path: &Path,
+) -> Result<Closing, Fail>
+    requires { (u v : ℕ) → is_present path.now.conditions u v ≡ false }
+{
+    assert_eq!(rt; path.n(), instance.n());
+    assert!(rt; decides_all(path));
+    Ok(ray(alloc, instance, path, 12)?)
+}
+
+/// The ray of a path, where the best has no length.
+fn ray_from_zero(
+    rt: &impl Abort,
+    alloc: Global,
+    instance: &Instance,
+    path: &Path,
+) -> Result<Closing, Fail> {
+    assert_eq!(rt; path.n(), instance.n());
+    assert!(rt; decides_all(path));
+    Ok(ray(alloc, instance, path, 0)?)
+}
+
+fn bound_of(rt: &impl Abort, instance: &Instance, path: &Path, closing: &Closing) -> i128 {
+    assert_eq!(rt; path.n(), instance.n());
+    assert_eq!(rt; fits(instance, path, closing), Fit::Fits);
+    bound(instance, path, closing)
+}
+
+#[test]
+fn too_few_used_pairs_give_the_lowest_city_a_large_dual(rt: HostRuntime) -> Result<(), Fail> {
+    let alloc = rt.alloc();
+    let instance = triangle(alloc)?;
+    let mut path = Path::new(alloc, 3);
+    path.push(Cond::Absent(0, 1))?;
+    path.push(Cond::Absent(0, 2))?;
+    path.push(Cond::Absent(1, 2))?;
+    let closing = ray_of_nothing(&rt, alloc, &instance, &path)?;
+    assert_eq!(rt; closing.city(), [13_631_488, 0, 0].as_slice());
+    assert_eq!(rt; bound_of(&rt, &instance, &path, &closing), 27_262_976);
+    assert!(rt; bound_of(&rt, &instance, &path, &closing) > needed(12));
+    Ok(())
+}
+
+#[test]
+fn too_many_used_pairs_give_the_lowest_city_a_negative_dual(rt: HostRuntime) -> Result<(), Fail> {
+    let alloc = rt.alloc();
+    let points = [
+        Point::new(0, 0),
+        Point::new(1, 0),
+        Point::new(0, 1),
+        Point::new(1, 1),
+    ];
+    let instance = from_points(alloc, Kind::Max, &points)?;
+    let mut path = Path::new(alloc, 4);
+    for (u, v) in [(0, 1), (0, 2), (0, 3), (1, 2), (1, 3), (2, 3)] {
+        present(&mut path, u, v)?;
+    }
+    let closing = ray_from_zero(&rt, alloc, &instance, &path)?;
+    assert_eq!(rt; closing.city(), [-1_048_576, 0, 0, 0].as_slice());
+    // six used pairs of length 1, three of them at city 0
+    assert_eq!(rt;
+        bound_of(&rt, &instance, &path, &closing),
+        (6 + 3 - 2) << 20
+    );
+    Ok(())
+}
+
+#[test]
+fn two_triangles_take_the_cut_through_city_0(rt: HostRuntime) -> Result<(), Fail> {
+    let alloc = rt.alloc();
+    let instance = two_triangles(alloc)?;
+    let mut path = Path::new(alloc, 6);
+    for u in 0..6 {
+        for v in u + 1..6 {
+            if (u < 3) == (v < 3) {
+                present(&mut path, u, v)?;
+            } else {
+                absent(&mut path, u, v)?;
+            }
+        }
+    }
+    let closing = ray_from_zero(&rt, alloc, &instance, &path)?;
+    assert_eq!(rt; closing.city(), [0; 6].as_slice());
+    assert_eq!(rt; closing.cuts().len(), 1);
+    assert!(rt; closing.cuts()[0].0 == subtour(alloc, 6, &[0, 1, 2])?);
+    assert_eq!(rt; closing.cuts()[0].1, 1_048_576);
+    // six used pairs of length 1, and the cut's right side
+    assert_eq!(rt; bound_of(&rt, &instance, &path, &closing), 8 << 20);
+    Ok(())
+}
+
+#[test]
+fn a_tour_needs_no_dual(rt: HostRuntime) -> Result<(), Fail> {
+    let alloc = rt.alloc();
+    let instance = triangle(alloc)?;
+    let mut path = Path::new(alloc, 3);
+    for (u, v) in [(0, 1), (0, 2), (1, 2)] {
+        present(&mut path, u, v)?;
+    }
+    let closing = ray_from_zero(&rt, alloc, &instance, &path)?;
+    assert_eq!(rt; closing.city(), [0; 3].as_slice());
+    assert_eq!(rt; closing.cuts().len(), 0);
+    assert_eq!(rt; bound_of(&rt, &instance, &path, &closing), 12 << 20);
+    Ok(())
+}
+
+/// A closing of six cities with these cuts and clique duals.
+fn closing_with(
+    alloc: Global,
+    cuts: Vec<(Cut, u64)>,
+    conds: &[(u32, u64)],
+) -> Result<Closing, Fail> {
+    Ok(Closing::new(
+        vec![in alloc; 0i64; 6]?,
+        cuts,
+        Vec::from_slice(alloc, conds)?,
+    ))
+}
+
+#[test]
+fn misfits_are_told_by_the_least(rt: HostRuntime) -> Result<(), Fail> {
+    let alloc = rt.alloc();
+    let instance = two_triangles(alloc)?;
+    let mut path = Path::new(alloc, 6);
+    twice(&mut path, set(alloc, 6, &[0, 1])?)?;
+    absent(&mut path, 0, 1)?;
+    twice(&mut path, set(alloc, 6, &[0, 2])?)?;
+    for (first, second, dual, want) in [
+        ([0, 1], [0, 2], 1, Fit::Fits),
+        ([0, 1], [0, 2], 1 << 62, Fit::Fits),
+        ([0, 1], [0, 2], 0, Fit::Misfit(2)),
+        ([0, 1], [0, 2], (1 << 62) + 1, Fit::Misfit(2)),
+        ([0, 1], [0, 1], 1, Fit::Misfit(3)),
+        ([0, 2], [0, 1], 1, Fit::Misfit(3)),
+    ] {
+        let mut cuts = Vec::new(alloc);
+        cuts.push((subtour(alloc, 6, &first)?, 1))?;
+        cuts.push((subtour(alloc, 6, &second)?, dual))?;
+        assert_eq!(rt;
+            fits(&instance, &path, &closing_with(alloc, cuts, &[])?),
+            want
+        );
+    }
+    for (conds, want) in [
+        ([(1, 1), (3, 1)], Fit::Fits),
+        ([(1, 1), (3, 0)], Fit::Misfit(2)),
+        ([(3, 1), (1, 1)], Fit::Misfit(4)),
+        ([(1, 1), (1, 1)], Fit::Misfit(4)),
+        ([(1, 1), (2, 1)], Fit::Misfit(4)),
+        ([(1, 1), (4, 1)], Fit::Misfit(4)),
+        ([(0, 1), (3, 1)], Fit::Misfit(4)),
+    ] {
+        let closing = closing_with(alloc, Vec::new(alloc), &conds)?;
+        assert_eq!(rt; fits(&instance, &path, &closing), want);
+    }
+    let other = subtour(alloc, 7, &[0, 1])?;
+    let mut cuts = Vec::new(alloc);
+    cuts.push((other, 1))?;
+    assert_eq!(rt;
+        fits(&instance, &path, &closing_with(alloc, cuts, &[])?),
+        Fit::Misfit(3)
+    );
+    let short = Closing::new(vec![in alloc; 0i64; 5]?, Vec::new(alloc), Vec::new(alloc));
+    assert_eq!(rt; fits(&instance, &path, &short), Fit::Misfit(1));
+    Ok(())
+}
+
+#[test]
+fn too_many_cuts_are_a_misfit(rt: HostRuntime) -> Result<(), Fail> {
+    let alloc = rt.alloc();
+    let instance = two_triangles(alloc)?;
+    let path = Path::new(alloc, 6);
+    let cut = subtour(alloc, 6, &[0, 1])?;
+    let mut cuts = Vec::new(alloc);
+    for _ in 0..4097 {
+        cuts.push((cut.copy(alloc)?, 0))?;
+    }
+    let closing = closing_with(alloc, cuts, &[])?;
+    assert_eq!(rt; fits(&instance, &path, &closing), Fit::Misfit(1));
+    Ok(())
+}
+
+#[test]
+fn copies_are_equal(rt: HostRuntime) -> Result<(), Fail> {
+    let alloc = rt.alloc();
+    let mut cuts = Vec::new(alloc);
+    cuts.push((subtour(alloc, 6, &[0, 1])?, 7))?;
+    let closing = closing_with(alloc, cuts, &[(1, 5)])?;
+    let report = Report::Closed(closing.copy(alloc)?);
+    let Report::Closed(copy) = report.copy(alloc)? else {
+        return Err("a split".into());
+    };
+    assert_eq!(rt; copy.city(), closing.city());
+    assert_eq!(rt; copy.conds(), [(1, 5)].as_slice());
+    assert!(rt; copy.cuts() == closing.cuts());
+    let (city, cuts, conds) = copy.into_parts();
+    assert_eq!(rt; (city.len(), cuts.len(), conds.len()), (6, 1, 1));
+    let split = Report::Split(Branch::Edge(0, 2));
+    let Report::Split(copy) = split.copy(alloc)? else {
+        return Err("a closing".into());
+    };
+    assert!(rt; copy == Branch::Edge(0, 2));
+    Ok(())
+}
