@@ -81,7 +81,7 @@ done
 for file in "$instances"/*.opt.tour; do
     name=$(basename "$file" .opt.tour)
     cities=$(sed -n '/TOUR_SECTION/,/-1/p' "$file" | tr -s ' \n' '\n' | grep -E '^[0-9]+$' | tr '\n' ' ')
-    want=$(awk -v n="$name" '$1 == n { print $2 }' "$instances/optima.tsv")
+    want=$(awk -F'\t' -v n="$name.tsp" '$1 == n { print $4 }' "$instances/optima.tsv")
     got=$("$program" "$instances/$name.tsp" $cities | awk '{ print $3 }')
     printf '%-16s optimal tour %s, known optimum %s\n' "$name" "$got" "$want"
     [ "$got" = "$want" ] || failed=1
