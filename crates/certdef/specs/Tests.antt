@@ -1,0 +1,111 @@
+-- The tests that refusals go by, as plain true or false.
+use Rattle.std.specs.Prelude.{ℕ, ◌+◌, ◌%◌, Bool, true, false, not, ◌&&◌, ◌==◌, nat_lt, nat_le, List, [], ◌∷◌, length}
+use Rattle.std.specs.Int.Signed.{lt_z}
+use Rattle.tspdef.specs.Sets.{has, meet, meets_any, leaves}
+use Rattle.tspdef.specs.Tours.{last_city}
+use Rattle.tspdef.specs.Instances.{Instance, length_in}
+use Rattle.tspdef.specs.Cuts.{Cut, subtour, comb}
+use Rattle.tspdef.specs.Paths.{Condition, condition_at, is_decided}
+use Rattle.tspdef.specs.Bounds.{bound, needed}
+use Rattle.certdef.specs.Items.{each_below}
+use Rattle.certdef.specs.Proofs.{Listed, Duals}
+use Rattle.certdef.specs.Accepted.{from_zero, cut_of, cuts_of, closing_of, is_clique}
+
+abbrev pub each_positive : List ℕ → Bool
+each_positive [] = true
+each_positive (c ∷ cs) = nat_lt 0 c && each_positive cs
+
+abbrev pub are_distinct : List ℕ → Bool
+are_distinct [] = true
+are_distinct (c ∷ cs) = not (has cs c) && are_distinct cs
+
+-- each of the cities 0 to n - 1 once
+abbrev pub is_tour : ℕ → List ℕ → Bool
+is_tour n cs = (length cs == n) && (each_below n cs && are_distinct cs)
+
+-- city 0 comes first, and the second city is less than the last
+abbrev pub is_canonical : List ℕ → Bool
+is_canonical [] = false
+is_canonical (a ∷ []) = false
+is_canonical (a ∷ b ∷ cs) = (a == 0) && nat_lt b (last_city b cs)
+
+-- strictly rising, the first at least `from` and all below n
+abbrev pub rises_below : ℕ → ℕ → List ℕ → Bool
+rises_below n from [] = true
+rises_below n from (c ∷ cs) = (nat_le from c && nat_lt c n) && rises_below n (c + 1) cs
+
+-- a set that is neither empty nor all n cities
+abbrev pub is_proper : ℕ → List ℕ → Bool
+is_proper n s = rises_below n 0 s && (nat_lt 0 (length s) && nat_lt (length s) n)
+
+abbrev pub are_disjoint : List (List ℕ) → Bool
+are_disjoint [] = true
+are_disjoint (t ∷ ts) = not (meets_any t ts) && are_disjoint ts
+
+abbrev pub are_teeth : ℕ → List ℕ → List (List ℕ) → Bool
+are_teeth n h [] = true
+are_teeth n h (t ∷ ts) = (rises_below n 0 t && (meet t h && leaves t h)) && are_teeth n h ts
+
+-- a cut of n cities
+abbrev pub is_cut : ℕ → Cut → Bool
+is_cut n (subtour m s) = (m == n) && is_proper n s
+is_cut n (comb m h ts) = (m == n) && (is_proper n h && ((length ts % 2 == 1) && (nat_le 3 (length ts) && (are_teeth n h ts && are_disjoint ts))))
+
+-- what lines are judged by, beside their form
+pub record Tests : Type 0 where
+  -- the number of cities that the form goes by
+  pub n : ℕ
+  -- the number of cities that a text may have
+  pub size : ℕ → Bool
+  pub tour : List ℕ → Bool
+  pub has_length : List ℕ → ℕ → Bool
+  pub cut : Listed → Bool
+  -- two cities from 0 are decided on a path
+  pub decided : List Condition → ℕ → ℕ → Bool
+  -- a set to branch on
+  pub proper : List ℕ → Bool
+  -- the depth names a condition on a set of the path
+  pub names : List Condition → ℕ → Bool
+  -- the duals close a leaf with this path for a length, where these cuts are listed
+  pub closes : ℕ → List Listed → List Condition → Duals → Bool
+  -- a leaf may be open
+  pub opens : Bool
+
+-- a canonical tour of cities from 1
+abbrev pub is_tour_from_one : ℕ → List ℕ → Bool
+is_tour_from_one n cs = each_positive cs && (is_tour n (from_zero cs) && is_canonical (from_zero cs))
+
+-- the bound of the duals exceeds what the length needs
+abbrev pub closes_leaf : Instance → ℕ → List Listed → List Condition → Duals → Bool
+closes_leaf i l cs path d = lt_z (needed l) (bound i path (closing_of i.n (cuts_of i.n cs) d))
+
+-- a verifier's
+abbrev pub verifier : Instance → Tests
+verifier i = record {
+  n = i.n;
+  size = λ m. m == i.n;
+  tour = is_tour_from_one i.n;
+  has_length = λ cs l. length_in i (from_zero cs) == l;
+  cut = λ c. is_cut i.n (cut_of i.n c);
+  decided = is_decided;
+  proper = λ s. is_proper i.n (from_zero s);
+  names = λ path d. is_clique (condition_at path d);
+  closes = closes_leaf i;
+  opens = false;
+}
+
+-- Those of a reader of the form alone, for n cities. It leaves to its caller another number of cities, and what a depth
+-- names.
+abbrev pub form_only : ℕ → Tests
+form_only n = record {
+  n = n;
+  size = λ m. true;
+  tour = λ cs. true;
+  has_length = λ cs l. true;
+  cut = λ c. true;
+  decided = λ path u v. false;
+  proper = λ s. true;
+  names = λ path d. true;
+  closes = λ l cs path d. true;
+  opens = true;
+}

@@ -1,0 +1,15 @@
+//! What a proof text is: the definitions of `specs/` (lines, values, texts, which of them are accepted, and the verdict that a
+//! verifier tells), and the law that an accepted text is a proof. Writer, reader and verifier share them. There is no program code
+//! in this crate.
+#![tactic(auto)]
+
+ghost use Rattle.certdef.specs.Laws.{AcceptedTextIsOptimal};
+
+use tspdef::accepted_is_optimal;
+
+/// Where a text is accepted with a length, no tour is shorter, whoever wrote it.
+pub fn accepted_text_is_optimal()
+    ensures { AcceptedTextIsOptimal }
+{
+    accepted_is_optimal();
+}
