@@ -1,0 +1,5 @@
+pub mod PresentLemmas
+mod JoinedLemmas
+mod PathSteps
+mod RoundLemmas
+mod SameSteps

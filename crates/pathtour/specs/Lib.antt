@@ -1,0 +1,4 @@
+pub mod Neighbours
+pub mod Rounds
+pub mod UsedTour
+pub mod Laws
