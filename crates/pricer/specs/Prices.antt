@@ -1,11 +1,12 @@
 -- What duals of sets take off the cost of a pair, city by city: a set with exactly one of two cities is one that has the
 -- first, or the second, less twice one that has both.
-use Rattle.std.specs.Prelude.{ℕ, ◌+◌, ◌*◌, Bool, true, cond, List, [], ◌∷◌, Option, Some, None, ℤ, pos, ◌+ℤ◌, ◌-ℤ◌, neg_ℤ, slice_index_or}
+use Rattle.std.specs.Prelude.{◌≡◌, ℕ, ◌+◌, ◌*◌, ◌^◌, Bool, true, cond, List, [], ◌∷◌, length, Option, Some, None, ℤ, pos, ◌+ℤ◌, ◌-ℤ◌, neg_ℤ, slice_index_or}
 use Rattle.std.specs.Int.{int_min}
 use Rattle.tspdef.specs.Sets.{has}
 use Rattle.tspdef.specs.Paths.{Condition, absent, present, two, four}
 use Rattle.tspdef.specs.Closings.{Closing}
 use Rattle.tspdef.specs.Sums.{sum_pairs}
+use Rattle.pricer.specs.Sizes.{IsWithin}
 use Rattle.tspdef.specs.Bounds.{Row, at_least, exactly, scale, cut_rows, condition_rows, city_dual, pair_term}
 
 -- a set counts: always, or where it holds a city
@@ -51,6 +52,12 @@ change_of r (four s) = pos 0
 -- the number at a place, 0 past the end
 abbrev pub at : List ℤ → ℕ → ℤ
 at xs c = slice_index_or xs c (pos 0)
+
+-- the same numbers, each of size 2^50 at most
+pub record AreSmall (numbers small : List ℤ) : Type 0 where
+  pub long : length small ≡ length numbers
+  pub same : (c : ℕ) → at small c ≡ at numbers c
+  pub size : (c : ℕ) → IsWithin (2 ^ 50) (at small c)
 
 -- a pair's distance, in units, less the numbers at its cities, and twice a number of its own
 abbrev pub cost_of : ℕ → ℤ → ℤ → ℤ → ℤ

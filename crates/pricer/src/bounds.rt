@@ -5,7 +5,7 @@
 //! duals of the sets that have both. The prices are one array; the duals that a city shares with others are a second one,
 //! filled for each city anew, so that the sets cost n times their total size and not a look at each set for each pair.
 
-ghost use Rattle.std.specs.Prelude.{◌≡◌, ℕ, ◌*◌, ◌^◌, ◌<◌, ◌≤◌, [], List, length, pos, neg_ℤ, ◌+ℤ◌, ◌-ℤ◌, ◌≤ℤ◌, slice_index_or};
+ghost use Rattle.std.specs.Prelude.{◌≡◌, ℕ, ◌*◌, ◌^◌, ◌<◌, ◌≤◌, [], List, length, IfSome, pos, neg_ℤ, ◌+ℤ◌, ◌-ℤ◌, ◌≤ℤ◌, slice_index_or};
 ghost use Rattle.std.specs.Int.{int_min};
 ghost use Rattle.tspdef.specs.Tours.{steps};
 ghost use Rattle.tspdef.specs.Paths.{Obeys};
@@ -14,14 +14,14 @@ ghost use Rattle.tspdef.specs.Closings.{IsClosing};
 ghost use Rattle.tspdef.specs.Sums.{sum_below, sum_pairs};
 ghost use Rattle.tspdef.specs.Bounds as defs;
 ghost use Rattle.pricer.specs.Sizes.{IsWithin};
-ghost use Rattle.pricer.specs.Prices.{at, price_of, shared_by, terms};
+ghost use Rattle.pricer.specs.Prices.{at, AreSmall, price_of, shared_by, terms};
 
 use crate::closing::Closing;
 use crate::decided::changes;
 use crate::duals::{city_sum, cliques_worth, cuts_worth};
 use crate::holding::is_held;
 use crate::numbers::{SCALE, signed};
-use crate::rows::{bare_row_loss, row_loss};
+use crate::rows::{bare_row_loss, narrow, row_loss};
 use crate::spread::{spread_cliques, spread_cuts};
 use crate::trail::{Front, Trail};
 use branchx::Path;
@@ -84,6 +84,13 @@ fn zeros() -> [i128; CITIES]
     [0; CITIES]
 }
 
+/// A small number for each city.
+fn small_zeros() -> [i64; CITIES]
+    ensures { length result ≡ 2000 }
+{
+    [0; CITIES]
+}
+
 /// What the duals alone add to the bound.
 fn worth<'a, T: Trail<'a>>(n: u32, trail: T, closing: &Closing) -> i128
     requires few { n ≤ 2000 }
@@ -108,7 +115,7 @@ fn losses<'a, T: Trail<'a>>(instance: &Instance, trail: T, closing: &Closing) ->
 {
     let mut price = zeros();
     lay_prices(instance, trail, closing, &mut price);
-    rows(instance, trail, closing, &price)
+    all_rows(instance, trail, closing, &price)
 }
 
 /// Writes the price of each city.
@@ -141,9 +148,39 @@ fn lay_duals(price: &mut [i128], city: &[i64])
     }
 }
 
-/// How far the pairs of all cities are below 0.
-fn rows<'a, T: Trail<'a>>(instance: &Instance, trail: T, closing: &Closing, price: &[i128]) -> u128
+/// How far the pairs of all cities are below 0. Prices that are small are summed up as small numbers.
+fn all_rows<'a, T: Trail<'a>>(
+    instance: &Instance,
+    trail: T,
+    closing: &Closing,
+    price: &[i128],
+) -> u128
+    requires few { instance.now.n ≤ 2000 }
     requires cities { T.cities trail ≡ instance.now.n }
+    requires closing { IsClosing instance.now.n (T.conditions trail) closing.now }
+    requires long { length price.now ≡ 2000 }
+    requires price { (c : ℕ) → at price.now c ≡ price_of (T.conditions trail) closing.now c }
+    ensures value { neg_ℤ (pos result) ≡ terms instance.now.n (defs.reduced_cost instance.now (T.conditions trail) closing.now) [] }
+    ensures size { result ≤ 2 ^ 125 }
+{
+    let mut small = small_zeros();
+    if narrow(price, &mut small) {
+        rows(instance, trail, closing, price, Some(&small))
+    } else {
+        rows(instance, trail, closing, price, None)
+    }
+}
+
+/// How far the pairs of all cities are below 0.
+fn rows<'a, T: Trail<'a>>(
+    instance: &Instance,
+    trail: T,
+    closing: &Closing,
+    price: &[i128],
+    small: Option<&[i64]>,
+) -> u128
+    requires cities { T.cities trail ≡ instance.now.n }
+    requires small { IfSome small (λ s. AreSmall price.now s.now) }
     requires closing { IsClosing instance.now.n (T.conditions trail) closing.now }
     requires long { instance.now.n ≤ length price.now }
     requires price { (c : ℕ) → at price.now c ≡ price_of (T.conditions trail) closing.now c }
@@ -152,7 +189,7 @@ fn rows<'a, T: Trail<'a>>(instance: &Instance, trail: T, closing: &Closing, pric
 {
     let mut total: u128 = 0;
     for v in 0..instance.n() {
-        total += row(instance, trail, closing, price, v);
+        total += row(instance, trail, closing, price, small, v);
     }
     total
 }
@@ -163,9 +200,11 @@ fn row<'a, T: Trail<'a>>(
     trail: T,
     closing: &Closing,
     price: &[i128],
+    small: Option<&[i64]>,
     v: u32,
 ) -> u128
     requires cities { T.cities trail ≡ instance.now.n }
+    requires small { IfSome small (λ s. AreSmall price.now s.now) }
     requires few { instance.now.n ≤ 2000 }
     requires closing { IsClosing instance.now.n (T.conditions trail) closing.now }
     requires long { instance.now.n ≤ length price.now }
@@ -177,7 +216,7 @@ fn row<'a, T: Trail<'a>>(
     if is_held(trail, closing, v) {
         shared_row(instance, trail, closing, price, v)
     } else {
-        bare_row_loss(instance, v, price[v as usize], price)
+        bare_row_loss(instance, v, price, small)
     }
 }
 

@@ -1,6 +1,6 @@
 //! Sums of numbers that are far from the limits of their type.
 
-ghost use Rattle.std.specs.Prelude.{◌≡◌, ℕ, ◌+◌, ◌*◌, ◌^◌, ◌≤◌, pos, neg_ℤ, ◌+ℤ◌, ◌-ℤ◌, ◌≤ℤ◌};
+ghost use Rattle.std.specs.Prelude.{◌≡◌, ℕ, ◌+◌, ◌*◌, ◌^◌, ◌<◌, ◌≤◌, IfSome, pos, neg_ℤ, ◌+ℤ◌, ◌-ℤ◌, ◌≤ℤ◌};
 ghost use Rattle.std.specs.Int.{int_min};
 ghost use Rattle.tspdef.specs.Bounds.{scale};
 ghost use Rattle.pricer.specs.Sizes.{IsWithin};
@@ -8,6 +8,12 @@ ghost use Rattle.pricer.specs.Prices.{cost_of};
 
 /// How many units one length is.
 pub const SCALE: i128 = 1 << 20;
+
+/// The same as a smaller type.
+const SMALL_SCALE: i64 = 1 << 20;
+
+/// The size of a number, in units, up to which 2,000 pairs lose less than 2^63.
+const SMALL: i128 = 1 << 50;
 
 /// A sum without a sign as a number with one.
 pub fn signed(x: u128) -> i128
@@ -48,6 +54,40 @@ pub fn below_zero(x: i128) -> u128
     ensures size { result ≤ 2 ^ 103 }
 {
     if x < 0 { x.unsigned_abs() } else { 0 }
+}
+
+/// The same of small numbers.
+#[inline]
+pub fn small_less(d: u32, a: i64, b: i64) -> i64
+    requires d { d < 2 ^ 30 }
+    requires a { IsWithin (2 ^ 50) a }
+    requires b { IsWithin (2 ^ 50) b }
+    ensures value { result ≡ pos (scale * d) -ℤ a -ℤ b }
+    ensures low { neg_ℤ (pos (2 ^ 51)) ≤ℤ result }
+{
+    SMALL_SCALE * i64::from(d) - a - b
+}
+
+/// How far a small number is below 0.
+#[inline]
+pub fn small_below_zero(x: i64) -> u64
+    requires { neg_ℤ (pos (2 ^ 51)) ≤ℤ x }
+    ensures value { neg_ℤ (pos result) ≡ int_min (pos 0) x }
+    ensures size { result ≤ 2 ^ 51 }
+{
+    if x < 0 { x.unsigned_abs() } else { 0 }
+}
+
+/// The number itself, if it is small.
+pub fn small_of(x: i128) -> Option<i64>
+    requires { IsWithin (2 ^ 100) x }
+    ensures { IfSome result (λ y. (y ≡ x) × IsWithin (2 ^ 50) y) }
+{
+    if x < -SMALL || x > SMALL {
+        None
+    } else {
+        Some(x as i64)
+    }
 }
 
 /// A cost less what the duals of sets take off it.

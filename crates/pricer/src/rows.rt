@@ -1,14 +1,14 @@
 //! Numbers at cities, and the sums of the pairs of a city.
 
-ghost use Rattle.std.specs.Prelude.{◌≡◌, ℕ, ◌*◌, ◌^◌, ◌<◌, ◌≤◌, length, cond, pos, neg_ℤ, ◌+ℤ◌};
+ghost use Rattle.std.specs.Prelude.{◌≡◌, ℕ, ◌*◌, ◌^◌, ◌<◌, ◌≤◌, true, length, cond, IfSome, pos, neg_ℤ, ◌+ℤ◌};
 ghost use Rattle.std.specs.Int.{int_min};
 ghost use Rattle.tspdef.specs.Sets.{has, RisesFrom};
 ghost use Rattle.tspdef.specs.Sums.{sum_below};
 ghost use Rattle.tspdef.specs.Instances.{dist};
 ghost use Rattle.pricer.specs.Sizes.{IsWithin};
-ghost use Rattle.pricer.specs.Prices.{at, cost_of};
+ghost use Rattle.pricer.specs.Prices.{at, cost_of, AreSmall};
 
-use crate::numbers::{below_zero, cost, less};
+use crate::numbers::{below_zero, cost, less, small_below_zero, small_less, small_of};
 use tspinst::Instance;
 
 /// Adds a number at each of some cities.
@@ -59,8 +59,44 @@ pub fn row_loss(instance: &Instance, v: u32, base: i128, price: &[i128], own: &[
     total
 }
 
-/// How far the pairs of a city that shares no number are below 0.
-pub fn bare_row_loss(instance: &Instance, v: u32, base: i128, price: &[i128]) -> u128
+/// Writes numbers as small ones, if they all are.
+pub fn narrow(numbers: &[i128], small: &mut [i64]) -> bool
+    requires long { length small.old ≡ length numbers.now }
+    requires numbers { (c : ℕ) → IsWithin (2 ^ 100) (at numbers.now c) }
+    ensures { result ≡ true → AreSmall numbers.now small.new }
+{
+    for i in 0..numbers.len() {
+        let Some(x) = small_of(numbers[i]) else {
+            return false;
+        };
+        small[i] = x;
+    }
+    true
+}
+
+/// How far the pairs of a city that shares no number are below 0, by the same numbers as small ones if they are small.
+pub fn bare_row_loss(
+    instance: &Instance,
+    v: u32,
+    price: &[i128],
+    small: Option<&[i64]>,
+) -> u128
+    requires city { v < instance.now.n }
+    requires few { instance.now.n ≤ 2000 }
+    requires price_len { instance.now.n ≤ length price.now }
+    requires price { (c : ℕ) → IsWithin (2 ^ 100) (at price.now c) }
+    requires small { IfSome small (λ s. AreSmall price.now s.now) }
+    ensures value { neg_ℤ (pos result) ≡ sum_below (λ u. int_min (pos 0) (cost_of (dist instance.now v u) (at price.now v) (at price.now u) (pos 0))) v }
+    ensures size { result ≤ 2 ^ 103 * v }
+{
+    match small {
+        Some(small) => u128::from(small_row_loss(instance, v, small[v as usize], small)),
+        None => wide_row_loss(instance, v, price[v as usize], price),
+    }
+}
+
+/// The same for prices of any size.
+fn wide_row_loss(instance: &Instance, v: u32, base: i128, price: &[i128]) -> u128
     requires city { v < instance.now.n }
     requires few { instance.now.n ≤ 2000 }
     requires price_len { instance.now.n ≤ length price.now }
@@ -71,14 +107,14 @@ pub fn bare_row_loss(instance: &Instance, v: u32, base: i128, price: &[i128]) ->
 {
     let mut total: u128 = 0;
     for u in 0..v {
-        total += bare_pair_loss(instance, v, base, price, u);
+        total += wide_pair_loss(instance, v, base, price, u);
     }
     total
 }
 
 /// How far a pair that shares no number is below 0.
 #[inline]
-fn bare_pair_loss(instance: &Instance, v: u32, base: i128, price: &[i128], u: u32) -> u128
+fn wide_pair_loss(instance: &Instance, v: u32, base: i128, price: &[i128], u: u32) -> u128
     requires from { v < instance.now.n }
     requires to { u < instance.now.n }
     requires price_len { instance.now.n ≤ length price.now }
@@ -88,4 +124,35 @@ fn bare_pair_loss(instance: &Instance, v: u32, base: i128, price: &[i128], u: u3
     ensures size { result ≤ 2 ^ 103 }
 {
     below_zero(less(instance.d(v, u), base, price[u as usize]))
+}
+
+/// The same as [`wide_row_loss`] for small prices: a pass that the compiler turns into vector instructions.
+fn small_row_loss(instance: &Instance, v: u32, base: i64, price: &[i64]) -> u64
+    requires city { v < instance.now.n }
+    requires few { instance.now.n ≤ 2000 }
+    requires price_len { instance.now.n ≤ length price.now }
+    requires base { IsWithin (2 ^ 50) base }
+    requires price { (c : ℕ) → IsWithin (2 ^ 50) (at price.now c) }
+    ensures value { neg_ℤ (pos result) ≡ sum_below (λ u. int_min (pos 0) (cost_of (dist instance.now v u) base (at price.now u) (pos 0))) v }
+    ensures size { result ≤ 2 ^ 51 * v }
+{
+    let mut total: u64 = 0;
+    for u in 0..v {
+        total += small_pair_loss(instance, v, base, price, u);
+    }
+    total
+}
+
+/// How far a pair with small prices is below 0.
+#[inline]
+fn small_pair_loss(instance: &Instance, v: u32, base: i64, price: &[i64], u: u32) -> u64
+    requires from { v < instance.now.n }
+    requires to { u < instance.now.n }
+    requires price_len { instance.now.n ≤ length price.now }
+    requires base { IsWithin (2 ^ 50) base }
+    requires price { IsWithin (2 ^ 50) (at price.now u) }
+    ensures value { neg_ℤ (pos result) ≡ int_min (pos 0) (cost_of (dist instance.now v u) base (at price.now u) (pos 0)) }
+    ensures size { result ≤ 2 ^ 51 }
+{
+    small_below_zero(small_less(instance.d(v, u), base, price[u as usize]))
 }

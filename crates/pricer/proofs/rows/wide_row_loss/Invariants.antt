@@ -3,7 +3,7 @@ use Rattle.std.specs.Int.{int_min}
 use Rattle.tspdef.specs.Sums.{sum_below}
 use Rattle.tspdef.specs.Instances.{dist}
 use Rattle.pricer.specs.Prices.{at, cost_of}
-use Rattle.pricer.proofs.rows.bare_row_loss.Given as goal
+use Rattle.pricer.proofs.rows.wide_row_loss.Given as goal
 
 abbrev pub invariant-loop-u : goal.invariant-loop-u
 invariant-loop-u l = record {
