@@ -3,6 +3,7 @@
 # work in the same run. Outside the gate. Prints a table; figures go into docs/PERFORMANCE.md.
 #
 #   bench/bound.sh
+#   RUN='taskset -c 3' bench/bound.sh    both on one core
 set -eu
 top=$(cd "$(dirname "$0")/.." && pwd)
 work=$(mktemp -d)
@@ -103,7 +104,7 @@ cat >"$work/plain.c" <<'C'
 #include <math.h>
 enum { N = 2000 };
 static uint32_t d[N * N];
-static int64_t city[N];
+static int64_t city[N], q[N];
 static __int128 p[N], w[N];
 static uint64_t state = 1;
 static uint64_t next(void) { return state = state * 6364136223846793005ull + 1442695040888963407ull; }
@@ -112,6 +113,7 @@ static __int128 bound(int cuts) {
     __int128 total = 0;
     for (int u = 0; u < N; u++) { p[u] = city[u]; total += 2 * (__int128)city[u]; }
     for (int k = 0; k < cuts; k++) { total += 2 * 1000000; for (int c = 0; c < 50; c++) p[k * 10 + c] += 1000000; }
+    for (int u = 0; u < N; u++) q[u] = (int64_t)p[u];
     for (int v = 0; v < N; v++) {
         int shared = 0;
         for (int k = 0; k < cuts; k++) if (v >= k * 10 && v < k * 10 + 50) {
@@ -120,7 +122,11 @@ static __int128 bound(int cuts) {
         }
         const uint32_t *row = d + v * N;
         if (shared) for (int u = 0; u < v; u++) { __int128 r = ((__int128)row[u] << 20) - p[u] - p[v] + 2 * w[u]; if (r < 0) total += r; }
-        else for (int u = 0; u < v; u++) { __int128 r = ((__int128)row[u] << 20) - p[u] - p[v]; if (r < 0) total += r; }
+        else {
+            int64_t sum = 0;
+            for (int u = 0; u < v; u++) { int64_t r = ((int64_t)row[u] << 20) - q[u] - q[v]; sum += r < 0 ? r : 0; }
+            total += sum;
+        }
     }
     return total;
 }
@@ -140,13 +146,13 @@ int main(void) {
     }
 }
 C
-gcc -O2 -o "$work/plain" "$work/plain.c" -lm
+gcc -O3 -march=x86-64-v2 -o "$work/plain" "$work/plain.c" -lm
 echo "building .." >&2
 (cd "$work/crates/boundbench" && rt fmt >/dev/null 2>&1; rt run >"$work/log" 2>&1 || true)
 program=$work/crates/boundbench/out/boundbench
 [ -x "$program" ] || { cat "$work/log" >&2; exit 1; }
-"$program" >"$work/ours"
-"$work/plain" >"$work/theirs"
+${RUN:-} "$program" >"$work/ours"
+${RUN:-} "$work/plain" >"$work/theirs"
 failed=0
 printf '%6s %12s %12s %8s %12s\n' cuts 'ours (us)' 'plain C (us)' ratio 'ns a pair'
 while read -r cuts ours value <&3 && read -r _ plain same <&4; do

@@ -75,12 +75,7 @@ pub fn narrow(numbers: &[i128], small: &mut [i64]) -> bool
 }
 
 /// How far the pairs of a city that shares no number are below 0, by the same numbers as small ones if they are small.
-pub fn bare_row_loss(
-    instance: &Instance,
-    v: u32,
-    price: &[i128],
-    small: Option<&[i64]>,
-) -> u128
+pub fn bare_row_loss(instance: &Instance, v: u32, price: &[i128], small: Option<&[i64]>) -> u128
     requires city { v < instance.now.n }
     requires few { instance.now.n ≤ 2000 }
     requires price_len { instance.now.n ≤ length price.now }

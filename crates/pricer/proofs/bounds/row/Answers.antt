@@ -1,11 +1,4 @@
-use Rattle.std.proofs.Common.{◌^◌, arith, ap, ◌∙◌, pos}
-use Rattle.std.specs.Prelude.{ℤ}
-use Rattle.std.specs.Int.{int_min}
-use Rattle.tspdef.specs.Instances.{dist}
-use Rattle.tspdef.specs.Sums.{sum_below}
-use Rattle.pricer.specs.Sizes.{IsWithin}
-use Rattle.pricer.specs.Prices.{at, cost_of}
-use Rattle.pricer.proofs.SizeLemmas.{read128}
+use Rattle.std.proofs.Common.{◌∙◌}
 use Rattle.pricer.proofs.RowLemmas.{price_size, bare_row_sum}
 use Rattle.pricer.proofs.bounds.row.Goals as goal
 
