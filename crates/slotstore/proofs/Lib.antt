@@ -1,0 +1,4 @@
+pub mod Changes
+pub mod Written
+pub mod Reading
+pub mod Loading

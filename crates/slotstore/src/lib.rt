@@ -1,0 +1,16 @@
+//! Two slots as a store of one body, that a torn write can't lose.
+//!
+//! - [`save`] writes a body to the slot that is not the newer one, so that the newer one stays until the new one is whole.
+//!
+//! A slot is a gate (1 is open), a number from 0 to 2, the body's length in eight bytes, the highest first, and the body.
+//! `specs/Slot.antt` and `specs/Store.antt` say what slots hold and which is the newer.
+#![tactic(auto)]
+
+mod header;
+mod newer;
+mod saving;
+
+pub use saving::save;
+
+#[cfg(test)]
+mod tests;

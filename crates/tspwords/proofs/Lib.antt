@@ -1,0 +1,4 @@
+pub mod PlainWords
+pub mod Budgets
+pub mod Given
+pub mod Taken

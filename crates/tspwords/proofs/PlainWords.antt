@@ -1,0 +1,97 @@
+-- Words that do not begin with a hyphen are values.
+use Rattle.std.proofs.Common.{◌≡◌, ℕ, Bool, true, false, cond, List, [], ◌∷◌, codes, refl, sym, ap, subst, Some, None, arith}
+use Rattle.std.proofs.lemmas.Bool.{ne_eqb}
+use Rattle.std.proofs.lemmas.Str.Parse.{digit_from_value, without_leading_plus_none}
+use Rattle.std.specs.Str.{bytes_eq}
+use Rattle.std.specs.Str.Parse.{IsNumeral, without_leading_plus}
+use Rattle.clap.specs.Lexer.{strip_byte, long_of, short_of}
+use Rattle.clap.specs.Walk.{Held, Row, Rule, Text, idle, value, word_met}
+use Rattle.clap.specs.Kinds.{or_else}
+use Rattle.clap.specs.declared.error.kind.ErrorKind.TheVariants as kind
+use Rattle.clap.proofs.OnLiterals.{clap_on_literals}
+use Rattle.clap.specs.declared.parser.matches.ValueSource.TheVariants.{DefaultValue, CommandLine}
+use Rattle.clap.specs.declared.builder.value_parser.Reading.TheVariants as reading
+use Rattle.clap.specs.Values.{IsUnsignedIn}
+use Rattle.clap.specs.ValueTests.{is_unsigned_in}
+use Rattle.tspwords.specs.Program.{IsTaken, rows_of_words, most_budget}
+use Rattle.tspwords.specs.Laws.{IsPlain, PathsAreTaken, BudgetsAreTaken}
+use Rattle.tspwords.proofs.Budgets.{in_unsigned}
+
+no_hyphen : (word : Text) → IsPlain word → strip_byte 45 word ≡ None
+no_hyphen [] plain = refl
+no_hyphen (x ∷ xs) plain = ap (λ b. cond b (Some xs) None) (ne_eqb x 45 plain)
+
+not_long : (word : Text) → IsPlain word → long_of word ≡ None
+not_long word plain = rw (no_hyphen word plain) refl
+
+not_short : (word : Text) → IsPlain word → short_of word ≡ None
+not_short word plain = rw (no_hyphen word plain) refl
+
+not_dashes : (word : Text) → IsPlain word → bytes_eq word (45 ∷ 45 ∷ []) ≡ false
+not_dashes [] plain = refl
+not_dashes (x ∷ xs) plain = rw (ne_eqb x 45 plain) refl
+
+-- the rows that are found
+abbrev given : Text → Text → Row
+given id word = record { id = id; values = word ∷ []; count = None; source = Some CommandLine; reading = reading.AsWritten }
+
+abbrev default_budget : Row
+default_budget = record { id = codes "budget"; values = codes "65536" ∷ []; count = None; source = Some DefaultValue; reading = reading.AsWritten }
+
+pub met_plain : (c : List Rule) (position : ℕ) (word : Text) (h : Held) → IsPlain word → word_met c [] false idle position word h ≡ (h, value)
+met_plain c position word h plain = rw (not_dashes word plain, not_long word plain, not_short word plain) refl
+
+-- what is found for the paths, and for a budget
+fault_free : (name a b c : Text) → IsPlain a → IsPlain b → IsPlain c → IsTaken (name ∷ codes "solve" ∷ a ∷ b ∷ c ∷ [])
+unfolding clap_on_literals
+fault_free name a b c pa pb pc =
+    rw (not_dashes a pa, not_long a pa, not_short a pa, not_dashes b pb, not_long b pb, not_short b pb, not_dashes c pc, not_long c pc, not_short c pc) refl
+
+rows_are : (name a b c : Text) → IsPlain a → IsPlain b → IsPlain c
+    → rows_of_words (name ∷ codes "solve" ∷ a ∷ b ∷ c ∷ []) ≡ given (codes "instance") a ∷ given (codes "proof") b ∷ given (codes "restart") c ∷ default_budget ∷ []
+unfolding clap_on_literals
+rows_are name a b c pa pb pc =
+    rw (not_dashes a pa, not_long a pa, not_short a pa, not_dashes b pb, not_long b pb, not_short b pb, not_dashes c pc, not_long c pc, not_short c pc) refl
+
+pub paths_taken : PathsAreTaken
+paths_taken name a b c pa pb pc =
+    let rows = rows_are name a b c pa pb pc in record {
+      taken = fault_free name a b c pa pb pc;
+      instance_is = rw rows refl;
+      proof_is = rw rows refl;
+      restart_is = rw rows refl;
+      budget_is = rw rows refl;
+    }
+
+-- a number does not begin with a hyphen
+number_is_plain : (word : Text) → IsUnsignedIn 0 most_budget word → IsPlain word
+number_is_plain [] h e = absurd (omega arith)
+number_is_plain (x ∷ xs) h e =
+    let same : without_leading_plus (x ∷ xs) ≡ x ∷ xs = without_leading_plus_none (x ∷ xs) (λ p. absurd (omega arith)) in
+    let numeral : IsNumeral 10 (x ∷ xs) = subst (IsNumeral 10) same h.0 in
+    absurd (omega (arith, digit_from_value x numeral.1.0))
+
+budget_fault_free : (name a b c d : Text) → IsPlain a → IsPlain b → IsPlain c → IsPlain d → is_unsigned_in 0 most_budget d ≡ true
+    → IsTaken (name ∷ codes "solve" ∷ a ∷ b ∷ c ∷ codes "--budget" ∷ d ∷ [])
+unfolding clap_on_literals
+budget_fault_free name a b c d pa pb pc pd is =
+    rw (not_dashes a pa, not_long a pa, not_short a pa, not_dashes b pb, not_long b pb, not_short b pb, not_dashes c pc, not_long c pc, not_short c pc, not_dashes d pd, not_long d pd, not_short d pd)
+    (subst (λ (b : Bool). or_else (or_else (or_else (cond b [] (kind.ValueValidation ∷ [])) []) []) [] ≡ []) (sym is) refl)
+
+budget_rows_are : (name a b c d : Text) → IsPlain a → IsPlain b → IsPlain c → IsPlain d
+    → rows_of_words (name ∷ codes "solve" ∷ a ∷ b ∷ c ∷ codes "--budget" ∷ d ∷ []) ≡ given (codes "instance") a ∷ given (codes "proof") b ∷ given (codes "restart") c ∷ given (codes "budget") d ∷ []
+unfolding clap_on_literals
+budget_rows_are name a b c d pa pb pc pd =
+    rw (not_dashes a pa, not_long a pa, not_short a pa, not_dashes b pb, not_long b pb, not_short b pb, not_dashes c pc, not_long c pc, not_short c pc, not_dashes d pd, not_long d pd, not_short d pd) refl
+
+pub budgets_taken : BudgetsAreTaken
+budgets_taken name a b c d pa pb pc fits =
+    let pd = number_is_plain d fits in
+    let is = in_unsigned d fits in
+    let rows = budget_rows_are name a b c d pa pb pc pd in record {
+      taken = budget_fault_free name a b c d pa pb pc pd is;
+      instance_is = rw rows refl;
+      proof_is = rw rows refl;
+      restart_is = rw rows refl;
+      budget_is = rw rows refl;
+    }

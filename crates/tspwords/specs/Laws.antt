@@ -1,0 +1,37 @@
+-- What words of a command say.
+use Rattle.std.specs.Prelude.{◌≡◌, ◌≢◌, ℕ, List, [], ◌∷◌, Some, codes, slice_index}
+use Rattle.clap.specs.Values.{IsUnsignedIn}
+use Rattle.clap.specs.Walk.{Text, first_of}
+use Rattle.tspwords.specs.Program.{IsTaken, most_budget, instance_word, proof_word, restart_word, budget_of, number_of, rows_of_words, word_for}
+
+-- a word that does not begin with a hyphen
+abbrev pub IsPlain : Text → Type 0
+IsPlain word = slice_index word 0 ≢ 45
+
+-- the words are taken, with these paths and this budget
+pub record AreTaken (words : List Text) (instance proof restart : Text) (budget : ℕ) : Type 0 where
+  pub taken : IsTaken words
+  pub instance_is : instance_word words ≡ instance
+  pub proof_is : proof_word words ≡ proof
+  pub restart_is : restart_word words ≡ restart
+  pub budget_is : budget_of words ≡ budget
+
+-- `solve` with three paths has the greatest budget
+abbrev pub PathsAreTaken : Type 0
+PathsAreTaken = (name a b c : Text) → IsPlain a → IsPlain b → IsPlain c
+    → AreTaken (name ∷ codes "solve" ∷ a ∷ b ∷ c ∷ []) a b c most_budget
+
+-- `solve` with three paths and `--budget N`
+abbrev pub BudgetsAreTaken : Type 0
+BudgetsAreTaken = (name a b c d : Text) → IsPlain a → IsPlain b → IsPlain c → IsUnsignedIn 0 most_budget d
+    → AreTaken (name ∷ codes "solve" ∷ a ∷ b ∷ c ∷ codes "--budget" ∷ d ∷ []) a b c (number_of d)
+
+-- words that are taken give each path, and a budget within its range or none, for which its default stands
+pub record AreGiven (words : List Text) : Type 0 where
+  pub instance : first_of (codes "instance") (rows_of_words words) ≡ Some (instance_word words)
+  pub proof : first_of (codes "proof") (rows_of_words words) ≡ Some (proof_word words)
+  pub restart : first_of (codes "restart") (rows_of_words words) ≡ Some (restart_word words)
+  pub budget : IsUnsignedIn 0 most_budget (word_for (codes "budget") words)
+
+abbrev pub TakenWordsAreGiven : Type 0
+TakenWordsAreGiven = (words : List Text) → IsTaken words → AreGiven words

@@ -1,0 +1,4 @@
+pub mod Program
+pub mod Says
+pub mod Laws
+pub mod Found

@@ -1,0 +1,68 @@
+-- The command line of the solver, as the parser of command lines is given it, and what words mean there.
+use Rattle.std.specs.Prelude.{◌≡◌, ℕ, List, [], ◌∷◌, Some, codes, unwrap_or, true}
+use Rattle.std.specs.Option.{option_map_or}
+use Rattle.std.specs.Str.Parse.{digits_value, without_leading_plus}
+use Rattle.clap.specs.Walk.{Row, Rule, Text, first_of}
+use Rattle.clap.specs.Simple.{App, Shape, new_rule, new_shape, subcommand_of, with_subcommand}
+use Rattle.clap.specs.Faults.{fault_of}
+use Rattle.clap.specs.declared.builder.value_parser.ValueParser.TheVariants as parser
+
+-- a word that has to be there
+abbrev pub path_rule : Text → Rule
+path_rule id = record (new_rule id) { required = true }
+
+-- the greatest budget, which is also the one that holds where none is given
+abbrev pub most_budget : ℕ
+most_budget = 65536
+
+-- `--budget N`, N from 0 to 65536
+abbrev pub budget_rule : Rule
+budget_rule = record (new_rule (codes "budget")) {
+  long = Some (codes "budget");
+  parser = Some (parser.Unsigned 0 most_budget);
+  defaults = codes "65536" ∷ [];
+}
+
+-- `solve INSTANCE PROOF RESTART [--budget N]`
+abbrev pub solve_shape : Shape
+solve_shape = record (new_shape (codes "solve")) {
+  rules = path_rule (codes "instance") ∷ path_rule (codes "proof") ∷ path_rule (codes "restart") ∷ budget_rule ∷ [];
+}
+
+-- the program: one of its commands has to be named
+abbrev pub program : App
+program = with_subcommand (record {
+  top = record (new_shape (codes "tspc")) { subcommand_required = true; disable_help_subcommand = true };
+  subs = [];
+}) solve_shape
+
+-- the words are of a command's form: the parser finds no fault with them, of which a call for help is one
+abbrev pub IsTaken : List Text → Type 0
+IsTaken words = fault_of program words ≡ []
+
+-- what the words say of the arguments of the command that they name
+abbrev pub rows_of_words : List Text → List Row
+rows_of_words words = option_map_or (λ p. p.1) (subcommand_of program words) []
+
+-- the word that is given for an argument
+abbrev pub word_in : Text → List Row → Text
+word_in id rows = unwrap_or (first_of id rows) []
+
+abbrev pub word_for : Text → List Text → Text
+word_for id words = word_in id (rows_of_words words)
+
+abbrev pub instance_word : List Text → Text
+instance_word words = word_for (codes "instance") words
+
+abbrev pub proof_word : List Text → Text
+proof_word words = word_for (codes "proof") words
+
+abbrev pub restart_word : List Text → Text
+restart_word words = word_for (codes "restart") words
+
+-- the number that a word of digits says, with or without a `+`
+abbrev pub number_of : Text → ℕ
+number_of word = digits_value 10 (without_leading_plus word)
+
+abbrev pub budget_of : List Text → ℕ
+budget_of words = number_of (word_for (codes "budget") words)

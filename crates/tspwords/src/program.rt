@@ -1,0 +1,61 @@
+//! The command line, as the parser of command lines is given it. At most two arguments are added a function, which keeps
+//! the proofs short.
+ghost use Rattle.std.specs.Prelude.{◌≡◌, codes, false, [], IfOk};
+ghost use Rattle.clap.specs.Walk.{rule_of};
+ghost use Rattle.clap.specs.Simple.{app_of, new_app, with_rule, on_top};
+ghost use Rattle.clap.specs.declared.builder.command.Command.TheViews.{out-Command};
+ghost use Rattle.tspwords.specs.Program.{path_rule, budget_rule, solve_shape, program};
+
+use clap::builder::ValueParser;
+use clap::{Arg, Command};
+use std::alloc::{AllocError, Global};
+
+// A word that has to be there.
+fn path<'a>(alloc: Global, id: &'a str) -> Arg<'a>
+    ensures rule { rule_of result ≡ path_rule id.now }
+    ensures local { result.global ≡ false }
+{
+    Arg::new(alloc, id).required(true)
+}
+
+// `--budget N`
+fn budget<'a>(alloc: Global) -> Arg<'a>
+    ensures rule { rule_of result ≡ budget_rule }
+    ensures local { result.global ≡ false }
+{
+    Arg::new(alloc, "budget")
+        .long("budget")
+        .value_parser(ValueParser::Unsigned(0, 65536))
+        .default_value("65536")
+}
+
+// `solve INSTANCE PROOF`, the front of `solve`.
+fn solve_front<'a>(alloc: Global) -> Result<Command<'a>, AllocError>
+    ensures app { IfOk result (λ c. app_of c ≡ with_rule (with_rule (new_app (codes "solve")) (path_rule (codes "instance"))) (path_rule (codes "proof"))) }
+    ensures local { IfOk result (λ c. (out-Command c).has_globals ≡ false) }
+{
+    Command::new(alloc, "solve")
+        .arg(path(alloc, "instance"))?
+        .arg(path(alloc, "proof"))
+}
+
+// `solve INSTANCE PROOF RESTART [--budget N]`
+fn solve<'a>(alloc: Global) -> Result<Command<'a>, AllocError>
+    ensures app { IfOk result (λ c. app_of c ≡ record { top = solve_shape; subs = [] }) }
+    ensures local { IfOk result (λ c. (out-Command c).has_globals ≡ false) }
+{
+    solve_front(alloc)?
+        .arg(path(alloc, "restart"))?
+        .arg(budget(alloc))
+}
+
+/// The program and its commands.
+pub(crate) fn program<'a>(alloc: Global) -> Result<Command<'a>, AllocError>
+    ensures app { IfOk result (λ c. app_of c ≡ program) }
+    ensures local { IfOk result (λ c. (out-Command c).has_globals ≡ false) }
+{
+    let top = Command::new(alloc, "tspc")
+        .subcommand_required(true)
+        .disable_help_subcommand(true);
+    top.subcommand(solve(alloc)?)
+}

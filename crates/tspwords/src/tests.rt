@@ -1,0 +1,68 @@
+use super::*;
+use std::alloc::{AllocError, Global};
+use std::test::Fail;
+
+// The words of a line, one blank between two.
+fn words_of(alloc: Global, line: &str) -> Result<Vec<String>, AllocError> {
+    let mut words = Vec::new(alloc);
+    for word in line.split(' ') {
+        words.push(String::from_str(alloc, word)?)?;
+    }
+    Ok(words)
+}
+
+// Calls whose contracts a test has no need of.
+fn read(alloc: Global, line: &str) -> Result<Command, WordsError> {
+    let words = words_of(alloc, line)?;
+    read_command(alloc, &words)
+}
+
+#[test]
+fn words_that_are_taken(rt: HostRuntime) -> Result<(), Fail> {
+    for (line, proof, budget) in [
+        ("tspc solve a b c", "b", 65536),
+        ("tspc solve a b c --budget 200", "b", 200),
+        ("tspc solve --budget=0 a b c", "b", 0),
+        ("tspc solve a --budget 65536 b c", "b", 65536),
+        ("tspc solve a b c --budget +5", "b", 5),
+        ("tspc solve a b c --budget 007", "b", 7),
+        ("tspc solve -- a -b c", "-b", 65536),
+        ("tspc solve a solve c", "solve", 65536),
+    ] {
+        let Command::Solve(solve) = read(rt.alloc(), line)?;
+        assert_eq!(rt; solve.instance.as_str(), "a", "{line}");
+        assert_eq!(rt; solve.proof.as_str(), proof, "{line}");
+        assert_eq!(rt; solve.restart.as_str(), "c", "{line}");
+        assert_eq!(rt; solve.budget, budget, "{line}");
+    }
+    Ok(())
+}
+
+#[test]
+fn words_that_are_not_taken(rt: HostRuntime) -> Result<(), Fail> {
+    for line in [
+        "tspc",
+        "tspc solve",
+        "tspc solve a",
+        "tspc solve a b c d",
+        "tspc solve a b c --budget",
+        "tspc solve a b c --budget 65537",
+        "tspc solve a b c --budget -1",
+        "tspc solve a b c --budget 1 --budget 2",
+        "tspc solve a b c --budget 18446744073709551616",
+        "tspc solve a b c --budge 1",
+        "tspc solve a b c -n",
+        "tspc bench 1 2 5 p",
+        "tspc --help",
+        "tspc help",
+        "tspc solve --help",
+        "tspc solve a b c -h",
+    ] {
+        assert_eq!(rt;
+            read(rt.alloc(), line).err(),
+            Some(WordsError::Usage),
+            "{line}"
+        );
+    }
+    Ok(())
+}

@@ -1,0 +1,53 @@
+//! Commands.
+ghost use Rattle.std.specs.Prelude.{◌≡◌};
+
+use std::alloc::AllocError;
+use std::error::Error;
+use std::fmt;
+
+/// A call of `solve`: the paths of the instance, of the proof and of the restart slots, and the greatest number of nodes to
+/// settle, from 0 to 65,536.
+#[derive(Debug, Drop)]
+pub struct Solve {
+    pub instance: String,
+    pub proof: String,
+    pub restart: String,
+    pub budget: u32,
+}
+
+/// A command of the solver.
+#[derive(Debug, Drop)]
+pub enum Command {
+    /// `solve INSTANCE PROOF RESTART [--budget N]`
+    Solve(Solve),
+}
+
+/// Why words were not read.
+#[derive(Clone, Copy, Debug, PartialEq, Eq)]
+pub enum WordsError {
+    /// They are not of a command's form, or ask for help.
+    Usage,
+    /// Memory ran out.
+    NoMemory,
+}
+
+impl fmt::Display for WordsError {
+    fn fmt<W: fmt::Write>(&self, f: &mut fmt::Formatter<W>) -> fmt::Result {
+        match self {
+            WordsError::Usage => write!(f, "not a command"),
+            WordsError::NoMemory => write!(f, "out of memory"),
+        }
+    }
+}
+
+impl Error for WordsError {}
+
+impl From<AllocError> for WordsError {
+    ghost use Rattle.tspwords.specs.declared.words.WordsError.TheVariants.{NoMemory};
+
+    ghost from_gives = { λ _ e. e ≡ NoMemory };
+
+    fn from(_: AllocError) -> Self {
+        WordsError::NoMemory
+    }
+}
