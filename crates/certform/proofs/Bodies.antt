@@ -57,3 +57,15 @@ body_is n l count form keys nodes order p e k =
     ∙ ap (λ cs. said (head n form l) ++ said (cuts_line (length cs) ∷ []) ++ said (flat_map cut_items cs) ++ said (node_items cs nodes order)) u
     ∙ ap (λ xs. said (head n form l) ++ said (cuts_line (length (used_cuts t)) ∷ []) ++ said (flat_map cut_items (used_cuts t)) ++ said xs) s
     ∙ parts n l form t
+
+pub body_puts : (i : Instance) (tour form : List ℕ) (keys : List Cut) (nodes : List Node) (order p q : List ℕ) (count : ℕ) (o a b c d : List ℕ) → IsPreorder nodes order (tree_of nodes ∷ [])
+    → p ≡ order → q ≡ order → keys ≡ node_cuts nodes p → count ≡ length keys → IsCanonicalForm tour form
+    → o ≡ [] → a ≡ o ++ said (head i.n form (length_in i form)) → b ≡ a ++ said (cuts_line count ∷ []) → c ≡ b ++ said (flat_map cut_items keys) → d ≡ c ++ said (node_items keys nodes q)
+    → IsBody i tour (tree_of nodes) d
+body_puts i tour form keys nodes order p q count o a b c d walk e f k n canonical g h s t u = (
+  form,
+  canonical,
+  u ∙ ap (λ ks. c ++ said (node_items keys nodes ks)) f
+  ∙ ap (λ r. r ++ said (node_items keys nodes order)) (t ∙ ap (λ r. r ++ said (flat_map cut_items keys)) (s ∙ ap (λ r. r ++ said (cuts_line count ∷ [])) (h ∙ ap (λ r. r ++ said (head i.n form (length_in i form))) g)))
+  ∙ body_is i.n (length_in i form) count form keys nodes order walk (k ∙ ap (node_cuts nodes) e) n,
+)

@@ -9,3 +9,4 @@ mod Fitting
 mod Whole
 mod Bodies
 mod Permuting
+mod Loops

@@ -1,11 +1,12 @@
 -- Numbered duals that are sorted by number are those put in one by one.
-use Rattle.std.proofs.Common.{◌≡◌, ℕ, zero, suc, ◌+◌, ◌<◌, ◌≤◌, Bool, true, false, cond, ◌&&◌, ◌||◌, List, [], ◌∷◌, length, get_or, map, refl, sym, ◌∙◌, ap, subst, arith, ⊎_elim, inl, inr, ◌⊎◌}
+use Rattle.std.proofs.Common.{◌≡◌, ℕ, zero, suc, ◌+◌, ◌<◌, ◌≤◌, Bool, true, false, cond, ◌&&◌, ◌||◌, List, [], ◌∷◌, ◌++◌, length, get_or, drop, map, refl, sym, ◌∙◌, ap, subst, arith, ⊎_elim, inl, inr, ◌⊎◌}
 use Rattle.std.specs.Prelude.{◌==◌, sum_by, nat_le}
 use Rattle.std.specs.List.{AllByRecursion}
 use Rattle.std.specs.List.Sorted.{IsPermutation, IsNonDecreasingBy}
 use Rattle.std.proofs.lemmas.List.Sorted.{sum_by-IsPermutation}
 use Rattle.std.proofs.lemmas.Bool.{cases_Bool, and_parts, and_from, and_left, and_right, eq-eqb, ne_eqb, eqb-true, cond-true, cond-false, cond_both, false≢true, cases_eq, leb-true, leb-false}
-use Rattle.tspdef.specs.Sets.{has}
+use Rattle.std.proofs.lemmas.List.{append-nil, at_drop_all}
+use Rattle.std.proofs.lemmas.List.Recursion.{is_sum_by}
 use Rattle.tspdef.specs.Cuts.{Cut}
 use Rattle.tspdef.specs.Closings.{AreRisingCuts}
 use Rattle.certdef.specs.Items.{rises}
@@ -22,19 +23,23 @@ one q r = cond (same q r) 1 0
 
 -- how often a numbered dual is in a list
 abbrev times : (ℕ × ℕ) → List (ℕ × ℕ) → ℕ
-times q xs = sum_by (one q) xs
+times q [] = 0
+times q (x ∷ xs) = one q x + times q xs
+
+times_is : (q : ℕ × ℕ) (xs : List (ℕ × ℕ)) → times q xs ≡ sum_by (one q) xs
+times_is q xs = is_sum_by (times q) (one q) refl (λ _ _. refl) xs
 
 same_true : (q r : ℕ × ℕ) → same q r ≡ true → q ≡ r
-same_true q r e =
-    let p = and_parts (q.0 == r.0) (q.1 == r.1) e in
-    let a = eqb-true q.0 r.0 p.0 in let b = eqb-true q.1 r.1 p.1 in cc
+same_true (a, b) (c, d) e =
+    let p = and_parts (a == c) (b == d) e in
+    let x = eqb-true a c p.0 in let y = eqb-true b d p.1 in cc
 
 one_self : (q : ℕ × ℕ) → one q q ≡ 1
 one_self q = cond-true (same q q) 1 0 (and_from (q.0 == q.0) (q.1 == q.1) (eq-eqb q.0 q.0 refl) (eq-eqb q.1 q.1 refl))
 
 -- one that is in a list is the first, or in the rest
 first_or_later : (q r : ℕ × ℕ) (rs : List (ℕ × ℕ)) → 1 ≤ times q (r ∷ rs) → (q ≡ r) ⊎ (1 ≤ times q rs)
-first_or_later q r rs h = ⊎_elim (λ e. inl (same_true q r e)) (λ e. let z = cond-false (same q r) 1 0 e in inr (omega arith)) (cases_Bool (same q r))
+first_or_later q r rs h = ⊎_elim (λ e. inl (same_true q r e)) (λ e. let z : one q r ≡ 0 = cond-false (same q r) 1 0 e in inr (omega arith)) (cases_Bool (same q r))
 
 -- each number is at least so great
 abbrev AreFrom : ℕ → List (ℕ × ℕ) → Type 0
@@ -91,8 +96,14 @@ times-written : (p : ℕ × ℕ) (cs : List Cut) (qs : List (Cut × ℕ)) → ti
 times-written p cs [] = refl
 times-written p cs (q ∷ qs) = times-put_in p (number_of cs q.0, q.1) (written_cuts cs qs) ∙ ap (λ k. one p (number_of cs q.0, q.1) + k) (times-written p cs qs)
 
-pub sorted_is : (cs : List Cut) (qs : List (Cut × ℕ)) (ys : List (ℕ × ℕ)) (d : ℕ × ℕ) → AreListed cs qs → AreRisingCuts qs → IsPermutation (numbered cs qs) ys
+sorted_is : (cs : List Cut) (qs : List (Cut × ℕ)) (ys : List (ℕ × ℕ)) (d : ℕ × ℕ) → AreListed cs qs → AreRisingCuts qs → IsPermutation (numbered cs qs) ys
     → ((i j : ℕ) → i ≤ j → j < length ys → (get_or ys i d).0 ≤ (get_or ys j d).0) → ys ≡ written_cuts cs qs
 sorted_is cs qs ys d h r perm up =
     same_list 1 (length cs) (written_cuts cs qs) ys (numbers_rise cs qs h r) (never_falls ys d up)
-    (λ q. sum_by-IsPermutation (one q) (numbered cs qs) ys perm ∙ sym (times-written q cs qs))
+    (λ q. times_is q ys ∙ sum_by-IsPermutation (one q) (numbered cs qs) ys perm ∙ sym (times_is q (numbered cs qs)) ∙ sym (times-written q cs qs))
+
+pub sorted_numbers : (cs : List Cut) (qs : List (Cut × ℕ)) (xs ys : List (ℕ × ℕ)) (i : ℕ) → AreListed cs qs → AreRisingCuts qs → length qs ≤ i
+    → xs ++ numbered cs (drop i qs) ≡ numbered cs qs → IsPermutation xs ys → IsNonDecreasingBy (λ (q : ℕ × ℕ). q.0) ys → ys ≡ written_cuts cs qs
+sorted_numbers cs qs xs ys i h r l e perm up =
+    let all : xs ≡ numbered cs qs = sym (append-nil xs) ∙ ap (λ r. xs ++ r) (sym (at_drop_all (numbered cs) qs i l)) ∙ e in
+    sorted_is cs qs ys (0, 0) h r (subst (λ x. IsPermutation x ys) all perm) (λ i j a b. up i j (0, 0) a b)

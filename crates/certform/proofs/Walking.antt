@@ -12,7 +12,7 @@ use Rattle.treebook.proofs.TreeLemmas.{tree_step}
 use Rattle.certdef.specs.Items.{Item}
 use Rattle.certdef.specs.Proofs.{tree_items}
 use Rattle.certform.specs.Written.{with_cuts_of, written_tree, used_cuts}
-use Rattle.certform.specs.Walks.{ComesFirst, IsPreorder, with_state_cuts, node_cuts, state_items, node_items}
+use Rattle.certform.specs.Walks.{ComesFirst, IsPreorder, stacked, with_state_cuts, node_cuts, state_items, node_items}
 
 -- ---- what is on a stack
 
@@ -75,6 +75,59 @@ pub gets_less : (n : ℕ) (nodes : List Node) (k : ℕ) (ts : List Tree) → IsT
     → sizes (then_wait nodes (state_at nodes k) ts) + 1 ≡ sizes (tree_at nodes k ∷ ts)
 gets_less n nodes k ts table m =
     then_size nodes (state_at nodes k) ts ∙ ap (λ t. size t + sizes ts) (sym (tree_step n nodes k table m))
+
+-- a node's children are put in its place on the stack
+waiting-stacked : (nodes : List Node) (s : State) (ks : List ℕ) → waiting nodes (ks ++ stacked s) ≡ then_wait nodes s (waiting nodes ks)
+waiting-stacked nodes open_node ks = ap (waiting nodes) (append-nil ks)
+waiting-stacked nodes (closed_node c) ks = ap (waiting nodes) (append-nil ks)
+waiting-stacked nodes (split_node b child) ks =
+    ap (waiting nodes) (sym (append_assoc ks ((child + 1) ∷ []) (child ∷ []))) ∙ waiting-push nodes (ks ++ (child + 1) ∷ []) child
+    ∙ ap (λ ts. tree_at nodes child ∷ ts) (waiting-push nodes ks (child + 1))
+
+abbrev pub AreNodes : List Node → List ℕ → Type 0
+AreNodes nodes ks = AllByRecursion (λ k. k < length nodes) ks
+
+nodes-join : (nodes : List Node) (xs ys : List ℕ) → AreNodes nodes xs → AreNodes nodes ys → AreNodes nodes (xs ++ ys)
+nodes-join nodes [] ys h k = k
+nodes-join nodes (x ∷ xs) ys h k = (h.0, nodes-join nodes xs ys h.1 k)
+
+nodes-front : (nodes : List Node) (xs : List ℕ) (k : ℕ) → AreNodes nodes (xs ++ k ∷ []) → AreNodes nodes xs × (k < length nodes)
+nodes-front nodes [] k h = (tt, h.0)
+nodes-front nodes (x ∷ xs) k h = let r = nodes-front nodes xs k h.1 in ((h.0, r.0), r.1)
+
+stacked_nodes : (n : ℕ) (nodes : List Node) (k : ℕ) (s : State) → IsStateOf n nodes k s → AreNodes nodes (stacked s)
+stacked_nodes n nodes k open_node ok = tt
+stacked_nodes n nodes k (closed_node c) ok = tt
+stacked_nodes n nodes k (split_node b child) ok = let within = ok.1.within in (within, (omega arith, tt))
+
+-- what a step of the walk keeps, and that less is left
+pub record Steps (nodes : List Node) (old_order old_stack order stack : List ℕ) (t : Tree) : Type 0 where
+  pub inside : AreNodes nodes stack
+  pub goes : GoesOn nodes order (waiting nodes stack) t
+  pub less : sizes (waiting nodes stack) < sizes (waiting nodes old_stack)
+
+pub top_is_node : (nodes : List Node) (stack rest : List ℕ) (k : ℕ) → AreNodes nodes stack → stack ≡ rest ++ k ∷ [] → k < length nodes
+top_is_node nodes stack rest k h e = (nodes-front nodes rest k (subst (AreNodes nodes) e h)).1
+
+pub walk_steps : (n : ℕ) (nodes : List Node) (old_order old_stack rest order stack : List ℕ) (k : ℕ) (t : Tree) → IsTable n nodes → AreNodes nodes old_stack
+    → GoesOn nodes old_order (waiting nodes old_stack) t → old_stack ≡ rest ++ k ∷ [] → order ≡ old_order ++ k ∷ [] → stack ≡ rest ++ stacked (state_at nodes k)
+    → Steps nodes old_order old_stack order stack t
+walk_steps n nodes old_order old_stack rest order stack k t table inside goes e f g =
+    let old = nodes-front nodes rest k (subst (AreNodes nodes) e inside) in
+    let was : waiting nodes old_stack ≡ tree_at nodes k ∷ waiting nodes rest = ap (waiting nodes) e ∙ waiting-push nodes rest k in
+    let now : waiting nodes stack ≡ then_wait nodes (state_at nodes k) (waiting nodes rest) = ap (waiting nodes) g ∙ waiting-stacked nodes (state_at nodes k) rest in
+    let before : GoesOn nodes old_order (tree_at nodes k ∷ waiting nodes rest) t = subst (λ ts. GoesOn nodes old_order ts t) was goes in
+    let l = gets_less n nodes k (waiting nodes rest) table old.1 in
+    let x = ap sizes was in let y = ap sizes now in
+    record {
+      inside = subst (AreNodes nodes) (sym g) (nodes-join nodes rest (stacked (state_at nodes k)) old.0 (stacked_nodes n nodes k (state_at nodes k) (table.states k old.1)));
+      goes = subst (λ ts. GoesOn nodes order ts t) (sym now) (subst (λ o. GoesOn nodes o (then_wait nodes (state_at nodes k) (waiting nodes rest)) t) (sym f) (goes_on n nodes old_order k (waiting nodes rest) t table old.1 before));
+      less = omega arith;
+    }
+
+pub walk_ends : (nodes : List Node) (order stack : List ℕ) (t : Tree) → stack ≡ [] → GoesOn nodes order (waiting nodes stack) t → IsPreorder nodes order (t ∷ [])
+walk_ends nodes order stack t e h =
+    subst (λ o. IsPreorder nodes o (t ∷ [])) (append-nil order) (h [] (subst (λ ks. IsPreorder nodes [] (waiting nodes ks)) (sym e) tt))
 
 -- ---- what nodes in preorder add
 

@@ -22,6 +22,12 @@ IsPreorder nodes [] (t ∷ ts) = ⊥
 IsPreorder nodes (k ∷ ks) [] = ⊥
 IsPreorder nodes (k ∷ ks) (t ∷ ts) = (k < length nodes) × ComesFirst (state_at nodes k) t (IsPreorder nodes ks) ts
 
+-- the nodes below a node of some state, the second child first
+abbrev pub stacked : State → List ℕ
+stacked open_node = []
+stacked (closed_node c) = []
+stacked (split_node b child) = (child + 1) ∷ child ∷ []
+
 -- a list of cuts with those of a node of some state
 abbrev pub with_state_cuts : List Cut → State → List Cut
 with_state_cuts cuts open_node = cuts

@@ -46,9 +46,10 @@ fn add_cuts<'a>(cuts: &mut IndexSet<&'a Cut>, more: &'a [(Cut, u64)]) -> Result<
 pub fn number_in(cuts: &IndexSet<&Cut>, cut: &Cut) -> u64
     ensures { result ≡ number_of (map (λ c. c.now) cuts.now.keys) cut.now }
 {
+    let len = cuts.len() as u64;
     match cuts.get_index_of(&cut) {
         Some(index) => index as u64 + 1,
-        None => cuts.len() as u64 + 1,
+        None => len + 1,
     }
 }
 

@@ -49,8 +49,7 @@ pub fn put_count(out: &mut Vec<u8>, cuts: usize) -> Result<(), AllocError>
 pub fn put_subtour(out: &mut Vec<u8>, set: &[u32]) -> Result<(), AllocError>
     ensures { OnOk result (out.new.items ≡ out.old.items ++ said (subtour_line (from_one set.now) ∷ [])) }
 {
-    put_word(out, b"S")?;
-    put_set(out, set)
+    put_set(out, b"S", set)
 }
 
 pub fn put_comb(out: &mut Vec<u8>, teeth: usize) -> Result<(), AllocError>
@@ -64,15 +63,13 @@ pub fn put_comb(out: &mut Vec<u8>, teeth: usize) -> Result<(), AllocError>
 pub fn put_handle(out: &mut Vec<u8>, set: &[u32]) -> Result<(), AllocError>
     ensures { OnOk result (out.new.items ≡ out.old.items ++ said (handle_line (from_one set.now) ∷ [])) }
 {
-    put_word(out, b"H")?;
-    put_set(out, set)
+    put_set(out, b"H", set)
 }
 
 pub fn put_tooth(out: &mut Vec<u8>, set: &[u32]) -> Result<(), AllocError>
     ensures { OnOk result (out.new.items ≡ out.old.items ++ said (tooth_line (from_one set.now) ∷ [])) }
 {
-    put_word(out, b"T")?;
-    put_set(out, set)
+    put_set(out, b"T", set)
 }
 
 pub fn put_edge(out: &mut Vec<u8>, u: u32, v: u32) -> Result<(), AllocError>
@@ -87,8 +84,7 @@ pub fn put_edge(out: &mut Vec<u8>, u: u32, v: u32) -> Result<(), AllocError>
 pub fn put_clique(out: &mut Vec<u8>, set: &[u32]) -> Result<(), AllocError>
     ensures { OnOk result (out.new.items ≡ out.old.items ++ said (clique_line (from_one set.now) ∷ [])) }
 {
-    put_word(out, b"K")?;
-    put_set(out, set)
+    put_set(out, b"K", set)
 }
 
 pub fn put_leaf(out: &mut Vec<u8>, cities: usize, cuts: usize, conds: usize) -> Result<(), AllocError>

@@ -1,7 +1,7 @@
 //! Words and numbers, put behind the bytes so far.
-ghost use Rattle.std.specs.Prelude.{◌≡◌, ◌++◌, [], ◌∷◌, length, OnOk};
+ghost use Rattle.std.specs.Prelude.{◌≡◌, ◌++◌, [], ◌∷◌, OnOk};
 ghost use Rattle.std.specs.Fmt.{signed_decimal};
-ghost use Rattle.certform.specs.Lines.{behind_space, spelled};
+ghost use Rattle.certform.specs.Lines.{behind_space, spelled, set_bytes};
 
 use itoa::Buffer;
 use std::alloc::AllocError;
@@ -49,10 +49,11 @@ pub fn put_end(out: &mut Vec<u8>) -> Result<(), AllocError>
     Ok(())
 }
 
-/// Puts a set behind a line's first word, and ends the line: the number of its cities, and the cities.
-pub fn put_set(out: &mut Vec<u8>, set: &[u32]) -> Result<(), AllocError>
-    ensures { OnOk result (out.new.items ≡ out.old.items ++ behind_space (length set.now) ++ spelled set.now ++ 10 ∷ []) }
+/// Puts a line of a first word and a set: the number of its cities, and the cities.
+pub fn put_set(out: &mut Vec<u8>, word: &[u8], set: &[u32]) -> Result<(), AllocError>
+    ensures { OnOk result (out.new.items ≡ out.old.items ++ set_bytes word.now set.now) }
 {
+    put_word(out, word)?;
     put_number(out, set.len() as u64)?;
     put_cities(out, set)?;
     put_end(out)

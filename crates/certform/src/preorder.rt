@@ -1,7 +1,7 @@
 //! The nodes of a tree in preorder.
-ghost use Rattle.std.specs.Prelude.{[], ◌∷◌, IfOk};
-ghost use Rattle.treebook.specs.Tables.{tree_of};
-ghost use Rattle.certform.specs.Walks.{IsPreorder};
+ghost use Rattle.std.specs.Prelude.{◌≡◌, ◌<◌, ◌++◌, [], ◌∷◌, length, IfOk, OnOk};
+ghost use Rattle.treebook.specs.Tables.{state_at, tree_of};
+ghost use Rattle.certform.specs.Walks.{IsPreorder, stacked};
 
 use std::alloc::{AllocError, Global};
 use treebook::{State, Tree};
@@ -19,10 +19,21 @@ pub fn preorder(alloc: Global, tree: &Tree) -> Result<Vec<u32>, AllocError>
     waiting.push(0u32)?;
     while let Some(k) = waiting.pop() {
         order.push(k)?;
-        if let State::Split(_, child) = tree.state(k) {
-            waiting.push(child + 1)?;
-            waiting.push(child)?;
-        }
+        stack_children(&mut waiting, tree, k)?;
     }
     Ok(order)
+}
+
+/// Puts the two nodes below a split node on a stack, the first child on top.
+fn stack_children(waiting: &mut Vec<u32>, tree: &Tree, node: u32) -> Result<(), AllocError>
+    requires { node < length tree.now.nodes }
+    ensures { OnOk result (waiting.new.items ≡ waiting.old.items ++ stacked (state_at tree.now.nodes node)) }
+{
+    let _n = tree.n();
+    let _nodes = tree.nodes();
+    if let State::Split(_, child) = tree.state(node) {
+        waiting.push(child + 1)?;
+        waiting.push(child)?;
+    }
+    Ok(())
 }
