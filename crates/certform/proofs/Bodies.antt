@@ -66,6 +66,6 @@ body_puts i tour form keys nodes order p q count o a b c d walk e f k n canonica
   form,
   canonical,
   u ∙ ap (λ ks. c ++ said (node_items keys nodes ks)) f
-  ∙ ap (λ r. r ++ said (node_items keys nodes order)) (t ∙ ap (λ r. r ++ said (flat_map cut_items keys)) (s ∙ ap (λ r. r ++ said (cuts_line count ∷ [])) (h ∙ ap (λ r. r ++ said (head i.n form (length_in i form))) g)))
-  ∙ body_is i.n (length_in i form) count form keys nodes order walk (k ∙ ap (node_cuts nodes) e) n,
+      ∙ ap (λ r. r ++ said (node_items keys nodes order)) (t ∙ ap (λ r. r ++ said (flat_map cut_items keys)) (s ∙ ap (λ r. r ++ said (cuts_line count ∷ [])) (h ∙ ap (λ r. r ++ said (head i.n form (length_in i form))) g)))
+      ∙ body_is i.n (length_in i form) count form keys nodes order walk (k ∙ ap (node_cuts nodes) e) n,
 )

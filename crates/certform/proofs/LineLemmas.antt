@@ -28,7 +28,7 @@ set_put : (o w s : List ℕ) → (((o ++ w) ++ behind_space (length s)) ++ spell
 set_put o w s =
     let n = length-map s (λ c. c + 1) in
     let bytes : join_with_byte 32 (w ∷ set_words (from_one s)) ≡ w ++ (behind_space (length s) ++ spelled s) =
-        joined w (set_words (from_one s)) ∙ ap (λ k. w ++ (behind_space k ++ spaced (map decimal (from_one s)))) n ∙ ap (λ r. w ++ (behind_space (length s) ++ r)) (sym (spelled_is s)) in
+    joined w (set_words (from_one s)) ∙ ap (λ k. w ++ (behind_space k ++ spaced (map decimal (from_one s)))) n ∙ ap (λ r. w ++ (behind_space (length s) ++ r)) (sym (spelled_is s)) in
     ap (λ r. r ++ 10 ∷ []) (append_assoc (o ++ w) (behind_space (length s)) (spelled s) ∙ append_assoc o w (behind_space (length s) ++ spelled s) ∙ ap (λ r. o ++ r) (sym bytes))
     ∙ append_assoc o (join_with_byte 32 (w ∷ set_words (from_one s))) (10 ∷ [])
 

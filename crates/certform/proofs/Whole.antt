@@ -77,7 +77,7 @@ module _ (i : Instance) (tour : List ℕ) (l : ℕ) (t : Tree) (inst : IsInstanc
               (
                 fits_count i.n (length (map listed cs)) (omega arith),
                 all_join i.n (flat_map listed_items (map listed cs)) (tree_items (written_tree cs t)) (cuts_fit i.n cs inst.few are_cuts)
-                (tree_fits i.n [] cs t inst.few (omega arith) (omega arith) has_all fitting),
+                    (tree_fits i.n [] cs t inst.few (omega arith) (omega arith) has_all fitting),
               ),
             ),
           ),

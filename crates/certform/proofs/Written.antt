@@ -153,10 +153,10 @@ leaf_fits n path cs c few some deep h f =
     let city = counts.city in let cuts = counts.cuts in let conds = counts.conds in (
       fits_leaf n (length (written_cities 1 c.city)) (length (written_cuts cs c.cuts)) (length c.conds) few (omega arith) (omega arith) conds,
       all_join n (map city_item (written_cities 1 c.city)) (map cut_item (written_cuts cs c.cuts) ++ map condition_item c.conds)
-      (cities_fit n 1 c.city few (omega arith) (omega arith) f.sizes.city)
-      (all_join n (map cut_item (written_cuts cs c.cuts)) (map condition_item c.conds)
-      (all_mapped n cut_item (written_cuts cs c.cuts) (numbers_fit n cs c.cuts some h f.sizes.cuts))
-      (depths_fit n 0 path c.conds deep f.depths.rising f.depths.cliques f.sizes.conds)),
+          (cities_fit n 1 c.city few (omega arith) (omega arith) f.sizes.city)
+          (all_join n (map cut_item (written_cuts cs c.cuts)) (map condition_item c.conds)
+          (all_mapped n cut_item (written_cuts cs c.cuts) (numbers_fit n cs c.cuts some h f.sizes.cuts))
+          (depths_fit n 0 path c.conds deep f.depths.rising f.depths.cliques f.sizes.conds)),
     )
 
 leaf_rises : (n : ℕ) (path : List Condition) (cs : List Cut) (c : Closing) → length path < 2 ^ 32 → AreListed cs c.cuts → Fits n path c → RisesIn n (length cs) (written_leaf cs c)
@@ -193,15 +193,15 @@ tree_fits n path cs (trees.edge_split u v a b) few some deep h f =
     let x = longer path (absent u v) in let y = longer path (present u v) in (
       fits_edge n u v few f.0.0.0 f.0.0.1,
       all_join n (tree_items (written_tree cs a)) (tree_items (written_tree cs b))
-      (tree_fits n (path ++ absent u v ∷ []) cs a few some (omega arith) h.0 f.1.0)
-      (tree_fits n (path ++ present u v ∷ []) cs b few some (omega arith) h.1 f.1.1),
+          (tree_fits n (path ++ absent u v ∷ []) cs a few some (omega arith) h.0 f.1.0)
+          (tree_fits n (path ++ present u v ∷ []) cs b few some (omega arith) h.1 f.1.1),
     )
 tree_fits n path cs (trees.clique_split s a b) few some deep h f =
     let x = longer path (two s) in let y = longer path (four s) in let p = f.0 in (
       fits_set n (clique_line (from_one s)) (codes "K") s few p.set refl (omega arith) (set_is_set n s p.set p.some),
       all_join n (tree_items (written_tree cs a)) (tree_items (written_tree cs b))
-      (tree_fits n (path ++ two s ∷ []) cs a few some (omega arith) h.0 f.1.0)
-      (tree_fits n (path ++ four s ∷ []) cs b few some (omega arith) h.1 f.1.1),
+          (tree_fits n (path ++ two s ∷ []) cs a few some (omega arith) h.0 f.1.0)
+          (tree_fits n (path ++ four s ∷ []) cs b few some (omega arith) h.1 f.1.1),
     )
 
 pub tree_rises : (n : ℕ) (path : List Condition) (cs : List Cut) (t : Tree) → length path + (open_leaves t + settled t) ≤ 1048576 → HasAllOf cs t → IsFitting n path t → LeavesRise n (length cs) (written_tree cs t)

@@ -26,7 +26,12 @@ pub fn put_closing(
         ++ said (tree_items (closed_leaf (written_leaf (map (λ c. c.now) cuts.now.keys) closing.now)))) }
 {
     let numbers = numbers_of(alloc, cuts, closing.cuts())?;
-    put_leaf(out, count(closing.city()), numbers.len(), closing.conds().len())?;
+    put_leaf(
+        out,
+        count(closing.city()),
+        numbers.len(),
+        closing.conds().len(),
+    )?;
     put_city_duals(out, closing.city())?;
     put_cut_duals(out, &numbers)?;
     put_condition_duals(out, closing.conds())

@@ -87,7 +87,12 @@ pub fn put_clique(out: &mut Vec<u8>, set: &[u32]) -> Result<(), AllocError>
     put_set(out, b"K", set)
 }
 
-pub fn put_leaf(out: &mut Vec<u8>, cities: usize, cuts: usize, conds: usize) -> Result<(), AllocError>
+pub fn put_leaf(
+    out: &mut Vec<u8>,
+    cities: usize,
+    cuts: usize,
+    conds: usize,
+) -> Result<(), AllocError>
     ensures { OnOk result (out.new.items ≡ out.old.items ++ said (leaf_line cities cuts conds ∷ [])) }
 {
     put_word(out, b"L")?;

@@ -4,8 +4,8 @@ ghost use Rattle.treebook.specs.Tables.{tree_of};
 ghost use Rattle.ports.specs.Outside.{Cause};
 ghost use Rattle.certform.specs.Told.{AddsBody, AddsFront};
 
-use crate::text::body;
 use crate::error::WriteError;
+use crate::text::body;
 use cyc::Tour;
 use ports::{Desk, Outlet, write_all};
 use std::alloc::Global;

@@ -10,7 +10,9 @@ ghost use Rattle.certform.specs.Walks.{state_items, node_items};
 
 use crate::cuts::{cuts_of, put_cuts};
 use crate::leaf::put_closing;
-use crate::lines::{put_clique, put_count, put_edge, put_length, put_open, put_size, put_title, put_tour};
+use crate::lines::{
+    put_clique, put_count, put_edge, put_length, put_open, put_size, put_title, put_tour,
+};
 use crate::preorder::preorder;
 use branchx::Branch;
 use cutform::Cut;

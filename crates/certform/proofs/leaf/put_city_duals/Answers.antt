@@ -17,12 +17,12 @@ loop-place-preserved c =
     let fits : SFits w64 y = search rules in
     let at : y ≡ get_or duals i y = get_or_default duals i (pos 0) y c.loop-place-test.true in
     elim c.if-dual-ne0.branch [
-      then-dual-ne0+in_ok-put_city w ↦
+      | then-dual-ne0+in_ok-put_city w ↦
           city_put c.loop-place.out.items c.if-dual-ne0.out.items (c.args.out.now.items ++ city_lines 1 duals) duals i y c.loop-place-test.true at
           (λ e. w.if-dual-ne0.true (bits_zero y e))
           (ap (λ v. v.items) w.out-is ∙ w.in_ok-put_city.ensures ∙ ap (λ x. c.loop-place.out.items ++ said (city_line (i + 1) x ∷ [])) (to_z-of_z w64 y fits))
           c.loop-place.invariant
-    | else-dual-ne0 w ↦
+      | else-dual-ne0 w ↦
           city_passed c.loop-place.out.items c.if-dual-ne0.out.items (c.args.out.now.items ++ city_lines 1 duals) duals i y c.loop-place-test.true at
           (zero_bits y fits w.if-dual-ne0.false) (ap (λ v. v.items) w.out-is) c.loop-place.invariant
     ]

@@ -15,7 +15,7 @@ loop-k-smaller c =
 pub loop-k-preserved : goal.loop-k-preserved
 loop-k-preserved c =
     let s = walk_steps c.n-n.result c.args.tree.now.nodes c.loop-k.order.items c.loop-k.waiting.items c.pop.new.self.items c.push-in-Some.new.self.items c.stack_children.new.waiting.items c.in-Some.k (tree_of c.args.tree.now.nodes)
-        c.n-n.ensures.is_table c.loop-k.invariant.inside c.loop-k.invariant.goes (search rules) (search rules) (search rules) in
+    c.n-n.ensures.is_table c.loop-k.invariant.inside c.loop-k.invariant.goes (search rules) (search rules) (search rules) in
     record { inside = s.inside; goes = s.goes }
 
 pub returns : goal.returns
