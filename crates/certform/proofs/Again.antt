@@ -1,5 +1,5 @@
 -- What is written stands for the tree again, but for the order of the cuts in a leaf.
-use Rattle.std.proofs.Common.{◌≡◌, ℕ, zero, suc, ◌+◌, ◌-◌, ◌*◌, ◌<◌, ◌≤◌, Bool, true, false, cond, List, [], ◌∷◌, ◌++◌, length, map, refl, sym, ◌∙◌, ap, subst, arith, ⊎_elim, length-append}
+use Rattle.std.proofs.Common.{◌≡◌, ℕ, zero, suc, ◌+◌, ◌-◌, ◌*◌, ◌<◌, ◌≤◌, List, [], ◌∷◌, ◌++◌, length, map, refl, sym, ◌∙◌, ap, subst, arith}
 use Rattle.std.specs.Prelude.{nat_abs, ◌==◌, ℤ, pos, negsuc, ◌+ℤ◌, ◌-ℤ◌, ◌<ℤ◌, ◌^◌}
 use Rattle.std.specs.List.{AllByRecursion}
 use Rattle.std.proofs.lemmas.Bool.{cond-true, cond-false, cond_both, eqb-true, eq-eqb, ne_eqb}
@@ -9,14 +9,14 @@ use Rattle.tspdef.specs.Paths.{Condition, absent, present, two, four}
 use Rattle.tspdef.specs.Closings.{Closing, IsClosing, IsDualSize}
 use Rattle.tspdef.specs.Instances.{Instance, dist}
 use Rattle.tspdef.specs.Sums.{sum_below, sum_pairs}
-use Rattle.tspdef.specs.Bounds.{scale, cut_rows, condition_rows, price, worth, city_dual, reduced_cost, pair_term, bound}
+use Rattle.tspdef.specs.Bounds.{scale, cut_rows, condition_rows, price, worth, city_dual, pair_term, bound}
 use Rattle.tspdef.specs.Trees as trees
 use Rattle.tspdef.specs.Trees.{Tree, IsSound, open_leaves, settled}
 use Rattle.certdef.specs.Accepted.{from_zero, cut_of, cuts_of, dual_of, duals_from, closing_of, tree_of}
 use Rattle.certform.specs.Written.{from_one, listed, written_cities, written_cuts, written_leaf, written_tree}
 use Rattle.certform.specs.Faithful.{AreAlike}
 use Rattle.certform.proofs.Numbering.{HasAllOf}
-use Rattle.certform.specs.Listing.{IsListed, AreListed}
+use Rattle.certform.specs.Listing.{AreListed}
 use Rattle.certform.proofs.Sorting.{named, length-written_cuts, worth_same, price_same, all_same}
 
 -- ---- cities and cuts

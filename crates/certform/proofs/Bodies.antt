@@ -1,16 +1,16 @@
 -- The parts of a body, put together.
-use Rattle.std.proofs.Common.{◌≡◌, ℕ, ◌+◌, List, [], ◌∷◌, ◌++◌, length, map, refl, sym, ◌∙◌, ap, arith, inl, inr, ⊎_elim, append_assoc, length-append}
+use Rattle.std.proofs.Common.{◌≡◌, ℕ, List, [], ◌∷◌, ◌++◌, length, map, sym, ◌∙◌, ap, arith, ⊎_elim, length-append}
 use Rattle.std.specs.Prelude.{reverse}
 use Rattle.std.specs.List.{flat_map}
 use Rattle.std.proofs.lemmas.List.{append-nil, length-map, length-reverse}
 use Rattle.std.proofs.lemmas.List.Folds.{flat_map-map}
 use Rattle.tspdef.specs.Cuts.{Cut}
-use Rattle.tspdef.specs.Tours.{IsTurned, IsSameCycle, IsCanonicalForm}
+use Rattle.tspdef.specs.Tours.{IsTurned, IsCanonicalForm}
 use Rattle.tspdef.specs.Instances.{Instance, length_in}
 use Rattle.tspdef.specs.Trees.{Tree}
 use Rattle.treebook.specs.Tables.{Node, tree_of}
 use Rattle.certdef.specs.Items.{Item, title_line, size_line, length_line, tour_line, cuts_line}
-use Rattle.certdef.specs.Proofs.{listed_items, tree_items, items, text}
+use Rattle.certdef.specs.Proofs.{listed_items, tree_items, text}
 use Rattle.certform.specs.Written.{from_one, listed, used_cuts, written_tree, written, IsBody}
 use Rattle.certform.specs.Lines.{said, cut_items}
 use Rattle.certform.specs.Walks.{IsPreorder, node_cuts, node_items}

@@ -1,9 +1,7 @@
 -- The tree of a table is one that a proof can be written for.
-use Rattle.std.proofs.Common.{◌≡◌, ℕ, zero, suc, ◌+◌, ◌<◌, ◌≤◌, Bool, cond, List, [], ◌∷◌, ◌++◌, length, refl, sym, ◌∙◌, ap, subst, arith, eq-eqb}
-use Rattle.std.specs.Prelude.{◌==◌}
+use Rattle.std.proofs.Common.{◌≡◌, ℕ, zero, suc, ◌+◌, ◌<◌, ◌≤◌, Bool, cond, List, [], ◌∷◌, ◌++◌, length, refl, ◌∙◌, ap, subst, arith, eq-eqb}
 use Rattle.std.proofs.lemmas.Bool.{ne_eqb}
 use Rattle.tspdef.specs.Paths.{Condition}
-use Rattle.tspdef.specs.Closings.{Fits}
 use Rattle.tspdef.specs.Trees.{Tree, first, second}
 use Rattle.treebook.specs.Tables.{Branch, on_edge, on_clique, State, open_node, closed_node, split_node, Node, parent_at, state_at, condition_on, condition_under, path_at, split_tree, grown, tree_within, MaySplit, HasChildren, IsStateOf, IsTable}
 use Rattle.treebook.proofs.WayLemmas.{path_step}

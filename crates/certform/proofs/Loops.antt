@@ -1,13 +1,13 @@
 -- Steps of loops over lists.
-use Rattle.std.proofs.Common.{◌≡◌, ℕ, zero, suc, ◌+◌, ◌^◌, ◌<◌, ◌≤◌, Bool, true, false, cond, ◌||◌, List, [], ◌∷◌, ◌++◌, length, get_or, drop, map, refl, sym, ◌∙◌, ap, subst, arith, append_assoc, ⊎_elim}
-use Rattle.std.specs.Prelude.{fold, nat_abs, nat_lt, ◌==◌, ℤ, pos, negsuc, Option, Some, None}
+use Rattle.std.proofs.Common.{◌≡◌, ℕ, ◌+◌, ◌^◌, ◌<◌, ◌≤◌, Bool, ◌||◌, List, [], ◌∷◌, ◌++◌, length, get_or, drop, map, refl, sym, ◌∙◌, ap, arith, append_assoc, ⊎_elim}
+use Rattle.std.specs.Prelude.{nat_abs, nat_lt, ◌==◌, ℤ, pos, negsuc, Option, Some, None}
 use Rattle.std.specs.Borrow.{Bor}
 use mir.Syntax.{w64}
 use mir.Val.{of_z, SFits}
-use Rattle.std.specs.List.{flat_map, list_any, position, position_or_len, AllByRecursion}
+use Rattle.std.specs.List.{list_any, position, position_or_len}
 use Rattle.std.specs.Ordering.{eq_by_cmp}
 use Rattle.std.proofs.lemmas.Bool.{cases_Bool, cond-true, cond-false, cond_both, eq-eqb, ltb-false, ne_eqb}
-use Rattle.std.proofs.lemmas.List.{append-nil, length-map, at_drop_more, at_drop_all}
+use Rattle.std.proofs.lemmas.List.{append-nil, length-map, at_drop_more}
 use Rattle.indexmap.specs.IndexSet.{insert_key}
 use Rattle.tspdef.specs.Cuts.{Cut, cut_cmp}
 use Rattle.certdef.specs.Items.{Item, city_line}

@@ -1,19 +1,18 @@
 -- The cuts of a tree in order of first use, and their numbers.
-use Rattle.std.proofs.Common.{◌≡◌, ℕ, zero, suc, ◌+◌, ◌-◌, ◌*◌, ◌<◌, ◌≤◌, Bool, true, false, cond, ◌||◌, List, [], ◌∷◌, ◌++◌, length, refl, sym, ◌∙◌, ap, subst, arith, ⊎_elim, length-append}
+use Rattle.std.proofs.Common.{◌≡◌, ℕ, suc, ◌+◌, ◌-◌, ◌*◌, ◌<◌, ◌≤◌, Bool, true, false, List, [], ◌∷◌, ◌++◌, length, refl, sym, ◌∙◌, ap, subst, arith, ⊎_elim, length-append}
 use Rattle.std.specs.Prelude.{slice_index_or, fold}
-use Rattle.std.specs.declared.cmp.Ordering.TheVariants.{Less, Equal, Greater}
-use Rattle.std.specs.declared.cmp.Ordering.{Ordering}
+use Rattle.std.specs.declared.cmp.Ordering.TheVariants.{Less}
 use Rattle.std.specs.List.{list_any, AllByRecursion}
-use Rattle.std.proofs.lemmas.Bool.{cases_Bool, or_cases, or_left, or_right, cond-true, cond-false, cond_both, false≢true}
+use Rattle.std.proofs.lemmas.Bool.{or_cases, or_left, or_right, cond_both, false≢true}
 use Rattle.tspdef.specs.Cuts.{Cut, subtour, cut_cmp, IsCut}
 use Rattle.tspdef.specs.Paths.{Condition, absent, present, two, four}
-use Rattle.tspdef.specs.Closings.{Closing, CutsRise, AreRisingCuts}
+use Rattle.tspdef.specs.Closings.{CutsRise, AreRisingCuts}
 use Rattle.tspdef.specs.Trees.{Tree, open_leaf, closed_leaf, edge_split, clique_split, open_leaves, settled}
 use Rattle.cutform.specs.Order.{ordered_cuts, same_cuts, same_cuts_tie}
 use Rattle.treebook.specs.Tables.{Node, State, open_node, closed_node, split_node, state_at}
 use Rattle.certdef.specs.Accepted.{cut_at}
 use Rattle.certform.specs.Written.{is_same_cut, with_cut, with_cuts, with_cuts_of, number_of}
-use Rattle.certform.specs.Listing.{IsListed, AreListed, IsReady, AreReady}
+use Rattle.certform.specs.Listing.{IsListed, AreListed, AreReady}
 use Rattle.certform.specs.Walks.{with_state_cuts, node_cuts}
 use Rattle.certform.specs.Faithful.{IsFitting}
 

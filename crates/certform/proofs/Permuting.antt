@@ -1,10 +1,10 @@
 -- Numbered duals that are sorted by number are those put in one by one.
-use Rattle.std.proofs.Common.{◌≡◌, ℕ, zero, suc, ◌+◌, ◌<◌, ◌≤◌, Bool, true, false, cond, ◌&&◌, ◌||◌, List, [], ◌∷◌, ◌++◌, length, get_or, drop, map, refl, sym, ◌∙◌, ap, subst, arith, ⊎_elim, inl, inr, ◌⊎◌}
-use Rattle.std.specs.Prelude.{◌==◌, sum_by, nat_le}
+use Rattle.std.proofs.Common.{◌≡◌, ℕ, suc, ◌+◌, ◌<◌, ◌≤◌, Bool, true, cond, ◌&&◌, List, [], ◌∷◌, ◌++◌, length, get_or, drop, map, refl, sym, ◌∙◌, ap, subst, arith, ⊎_elim, inl, inr, ◌⊎◌}
+use Rattle.std.specs.Prelude.{◌==◌, sum_by}
 use Rattle.std.specs.List.{AllByRecursion}
 use Rattle.std.specs.List.Sorted.{IsPermutation, IsNonDecreasingBy}
 use Rattle.std.proofs.lemmas.List.Sorted.{sum_by-IsPermutation}
-use Rattle.std.proofs.lemmas.Bool.{cases_Bool, and_parts, and_from, and_left, and_right, eq-eqb, ne_eqb, eqb-true, cond-true, cond-false, cond_both, false≢true, cases_eq, leb-true, leb-false}
+use Rattle.std.proofs.lemmas.Bool.{cases_Bool, and_parts, and_from, eq-eqb, eqb-true, cond-true, cond-false}
 use Rattle.std.proofs.lemmas.List.{append-nil, at_drop_all}
 use Rattle.std.proofs.lemmas.List.Recursion.{is_sum_by}
 use Rattle.tspdef.specs.Cuts.{Cut}
@@ -12,7 +12,7 @@ use Rattle.tspdef.specs.Closings.{AreRisingCuts}
 use Rattle.certdef.specs.Items.{rises}
 use Rattle.certdef.specs.Accepted.{firsts}
 use Rattle.certform.specs.Written.{number_of, put_in, written_cuts}
-use Rattle.certform.specs.Listing.{IsListed, AreListed}
+use Rattle.certform.specs.Listing.{AreListed}
 use Rattle.certform.proofs.Sorting.{put_cases, rises_from, numbers_rise}
 
 abbrev same : (ℕ × ℕ) → (ℕ × ℕ) → Bool

@@ -1,12 +1,12 @@
 -- Numbered duals by rising numbers.
-use Rattle.std.proofs.Common.{◌≡◌, ℕ, zero, suc, ◌+◌, ◌-◌, ◌*◌, ◌<◌, ◌≤◌, Bool, true, false, cond, ◌||◌, ◌&&◌, eqb, leb, List, [], ◌∷◌, ◌++◌, length, map, refl, sym, ◌∙◌, ap, subst, arith, ⊎_elim}
-use Rattle.std.specs.Prelude.{nat_le, ◌==◌, ℤ, pos, ◌+ℤ◌, ◌-ℤ◌}
+use Rattle.std.proofs.Common.{◌≡◌, ℕ, ◌+◌, ◌*◌, ◌<◌, ◌≤◌, true, false, ◌&&◌, List, [], ◌∷◌, length, map, refl, sym, ◌∙◌, ap, subst, arith}
+use Rattle.std.specs.Prelude.{nat_le, ◌==◌, ℤ, pos, ◌+ℤ◌}
 use Rattle.std.specs.List.{AllByRecursion}
-use Rattle.std.proofs.lemmas.Bool.{cases_Bool, or_cases, or_left, or_right, or_from, and_from, and_parts, or_parts, cond-true, cond-false, cond_both, false≢true, leb-true, leb-false, le-leb, ne_eqb, eqb-true}
+use Rattle.std.proofs.lemmas.Bool.{or_from, and_from, and_parts, or_parts, cond_both, false≢true, leb-true, leb-false, le-leb, ne_eqb}
 use Rattle.std.proofs.lemmas.Int.{ints}
 use Rattle.tspdef.specs.Sets.{has}
-use Rattle.tspdef.specs.Cuts.{Cut, cut_cmp, sets_of, right_side, coefficient}
-use Rattle.tspdef.specs.Closings.{CutsRise, AreRisingCuts}
+use Rattle.tspdef.specs.Cuts.{Cut, sets_of, right_side, coefficient}
+use Rattle.tspdef.specs.Closings.{AreRisingCuts}
 use Rattle.tspdef.specs.Bounds.{cut_rows, price, worth}
 use Rattle.certdef.specs.Items.{rises}
 use Rattle.certdef.specs.Accepted.{cut_at, firsts}

@@ -1,5 +1,5 @@
 -- What is written is within the bounds of form.
-use Rattle.std.proofs.Common.{◌≡◌, ℕ, zero, suc, ◌+◌, ◌-◌, ◌*◌, ◌^◌, ◌<◌, ◌≤◌, Bool, true, false, cond, ◌&&◌, List, [], ◌∷◌, ◌++◌, length, map, refl, sym, ◌∙◌, ap, subst, arith, decimal}
+use Rattle.std.proofs.Common.{◌≡◌, ℕ, suc, ◌+◌, ◌*◌, ◌^◌, ◌<◌, ◌≤◌, true, ◌&&◌, List, [], ◌∷◌, length, map, refl, ◌∙◌, ap, arith, decimal}
 use Rattle.std.specs.Prelude.{nat_abs, nat_lt, nat_le, ◌==◌, ℤ, pos, negsuc, codes}
 use Rattle.std.specs.Fmt.{signed_decimal}
 use Rattle.std.specs.List.{AllByRecursion, join_with_byte}
@@ -7,7 +7,7 @@ use Rattle.std.proofs.lemmas.Bool.{and_from, lt-ltb, le-leb, eq-eqb}
 use Rattle.std.proofs.lemmas.Fmt.{length-decimal-le_wide}
 use Rattle.std.proofs.lemmas.List.{length-append, length-map}
 use Rattle.tspdef.specs.Sets.{RisesFrom, IsSet}
-use Rattle.certdef.specs.Items.{Item, title_line, size_line, length_line, tour_line, cuts_line, subtour_line, comb_line, handle_line, tooth_line, edge_line, clique_line, leaf_line, city_line, cut_line, condition_line, open_line, words, set_words, line, rises, each_below, is_set, is_dual, in_bounds, longest, fits}
+use Rattle.certdef.specs.Items.{Item, title_line, size_line, length_line, tour_line, cuts_line, comb_line, edge_line, leaf_line, city_line, cut_line, condition_line, open_line, words, set_words, line, rises, each_below, is_set, is_dual, in_bounds, longest, fits}
 use Rattle.certform.specs.Written.{from_one}
 use Rattle.certform.proofs.Sorting.{rises_again}
 use Rattle.certform.proofs.LineLemmas.{spaced, joined}

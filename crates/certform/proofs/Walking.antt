@@ -1,8 +1,7 @@
 -- Trees that wait on a stack.
-use Rattle.std.proofs.Common.{◌≡◌, ℕ, zero, suc, ◌+◌, ◌<◌, ◌≤◌, List, [], ◌∷◌, ◌++◌, length, map, refl, sym, ◌∙◌, ap, subst, arith, append_assoc}
+use Rattle.std.proofs.Common.{◌≡◌, ℕ, ◌+◌, ◌<◌, ◌≤◌, List, [], ◌∷◌, ◌++◌, length, refl, sym, ◌∙◌, ap, subst, arith, append_assoc}
 use Rattle.std.specs.Prelude.{fold}
 use Rattle.std.specs.List.{flat_map, AllByRecursion}
-use Rattle.std.proofs.lemmas.Grind.{flat_map-append, fold-append}
 use Rattle.std.proofs.lemmas.List.{append-nil}
 use Rattle.tspdef.specs.Cuts.{Cut}
 use Rattle.tspdef.specs.Trees as trees
@@ -11,8 +10,8 @@ use Rattle.treebook.specs.Tables.{Node, State, open_node, closed_node, split_nod
 use Rattle.treebook.proofs.TreeLemmas.{tree_step}
 use Rattle.certdef.specs.Items.{Item}
 use Rattle.certdef.specs.Proofs.{tree_items}
-use Rattle.certform.specs.Written.{with_cuts_of, written_tree, used_cuts}
-use Rattle.certform.specs.Walks.{ComesFirst, IsPreorder, stacked, with_state_cuts, node_cuts, state_items, node_items}
+use Rattle.certform.specs.Written.{with_cuts_of, written_tree}
+use Rattle.certform.specs.Walks.{ComesFirst, IsPreorder, stacked, with_state_cuts, state_items, node_items}
 
 -- ---- what is on a stack
 

@@ -1,15 +1,14 @@
 -- What is written for a tour and a sound tree is faithful, and accepted where no leaf is open.
-use Rattle.std.proofs.Common.{◌≡◌, ℕ, zero, suc, ◌+◌, ◌-◌, ◌*◌, ◌^◌, ◌<◌, ◌≤◌, List, [], ◌∷◌, ◌++◌, length, map, refl, sym, ◌∙◌, ap, subst, arith, length-append}
+use Rattle.std.proofs.Common.{◌≡◌, ℕ, ◌+◌, ◌*◌, ◌^◌, ◌<◌, ◌≤◌, List, [], ◌∷◌, length, map, refl, sym, ◌∙◌, ap, subst, arith, length-append}
 use Rattle.std.specs.List.{AllByRecursion, flat_map}
 use Rattle.std.proofs.lemmas.List.{length-map}
 use Rattle.tspdef.specs.Cuts.{Cut, IsCut}
-use Rattle.tspdef.specs.Tours.{IsTour, IsCanonical, steps, travelled, walk}
+use Rattle.tspdef.specs.Tours.{IsCanonical, travelled, walk}
 use Rattle.tspdef.specs.Instances.{Instance, IsInstance, IsTourOf, length_in, dist}
 use Rattle.tspdef.specs.Bounds.{needed}
-use Rattle.tspdef.specs.Trees.{Tree, IsSound, IsSoundFor, open_leaves, settled}
-use Rattle.certdef.specs.Items.{Item, title_line, size_line, length_line, tour_line, cuts_line, fits}
+use Rattle.tspdef.specs.Trees.{Tree, IsSoundFor, open_leaves, settled}
 use Rattle.certdef.specs.Proofs.{Proof, listed_items, tree_items, items, text}
-use Rattle.certdef.specs.Accepted.{from_zero, cuts_of, tree_of, tree_in, IsReadable, HasForm, IsSoundProof, IsAcceptedProof, IsTextOf, IsAcceptedText, most_bytes, LeavesRise}
+use Rattle.certdef.specs.Accepted.{cuts_of, tree_of, tree_in, HasForm, IsSoundProof, most_bytes, LeavesRise}
 use Rattle.certform.specs.Written.{from_one, listed, used_cuts, written_tree, written}
 use Rattle.certform.specs.Faithful.{IsFitting, AreAlike, IsFaithful, WrittenIsFaithful, FaithfulIsAccepted}
 use Rattle.certform.proofs.Numbering.{tree_added, tree_cuts_are_cuts, few_cuts, HasAllOf}

@@ -1,24 +1,24 @@
 -- A value that is written is of the grammar.
-use Rattle.std.proofs.Common.{◌≡◌, ℕ, zero, suc, ◌+◌, ◌-◌, ◌*◌, ◌^◌, ◌<◌, ◌≤◌, Bool, true, false, cond, ◌&&◌, List, [], ◌∷◌, ◌++◌, length, map, refl, sym, ◌∙◌, ap, subst, arith, length-append}
+use Rattle.std.proofs.Common.{◌≡◌, ℕ, zero, suc, ◌+◌, ◌-◌, ◌*◌, ◌^◌, ◌<◌, ◌≤◌, true, List, [], ◌∷◌, ◌++◌, length, map, refl, sym, subst, arith, length-append}
 use Rattle.std.specs.Prelude.{nat_abs, nat_le, ◌==◌, ℤ, Option, Some, None, slice_get, codes}
 use Rattle.std.specs.List.{AllByRecursion, flat_map}
 use Rattle.std.proofs.lemmas.Bool.{and_from, and_parts, leb-true, cond_both, eqb-false, false≢true}
 use Rattle.std.proofs.lemmas.List.{length-map}
-use Rattle.tspdef.specs.Sets.{IsSet, IsProper, meet}
-use Rattle.tspdef.specs.Cuts.{Cut, subtour, comb, IsTooth, IsComb, IsCut}
+use Rattle.tspdef.specs.Sets.{meet}
+use Rattle.tspdef.specs.Cuts.{Cut, subtour, comb, IsTooth, IsCut}
 use Rattle.tspdef.specs.Paths.{Condition, absent, present, two, four, condition_at, IsClique}
 use Rattle.tspdef.specs.Closings.{Closing, IsDualSize, DepthsRise, NamesCliques, Fits}
 use Rattle.tspdef.specs.Trees as trees
 use Rattle.tspdef.specs.Trees.{Tree, open_leaves, settled}
 use Rattle.tspdef.proofs.SmallCuts.{cuts_are_small}
-use Rattle.certdef.specs.Items.{Item, subtour_line, comb_line, handle_line, tooth_line, clique_line, line, rises, in_bounds, longest, fits}
-use Rattle.certdef.specs.Proofs.{Listed, listed_items, city_item, cut_item, condition_item, dual_items, tree_items, items, lines, text_of, ended}
-use Rattle.certdef.specs.Accepted.{from_zero, firsts, is_clique, name_cliques, RisesIn, LeavesRise, DepthsName}
+use Rattle.certdef.specs.Items.{Item, subtour_line, handle_line, tooth_line, clique_line, line, rises, in_bounds, longest, fits}
+use Rattle.certdef.specs.Proofs.{listed_items, city_item, cut_item, condition_item, tree_items, ended}
+use Rattle.certdef.specs.Accepted.{firsts, is_clique, name_cliques, RisesIn, LeavesRise, DepthsName}
 use Rattle.certform.specs.Written.{from_one, listed, written_cities, written_cuts, written_leaf, written_tree, number_of}
 use Rattle.certform.specs.Lines.{said}
 use Rattle.certform.specs.Faithful.{IsFitting}
 use Rattle.certform.proofs.Numbering.{HasAllOf, number_some, number_within}
-use Rattle.certform.specs.Listing.{IsListed, AreListed}
+use Rattle.certform.specs.Listing.{AreListed}
 use Rattle.certform.proofs.Sorting.{all-put_in, length-written_cuts, numbers_rise, rises_again}
 use Rattle.certform.proofs.Again.{less_one, cities_again}
 use Rattle.certform.proofs.Spelling.{fits_comb, fits_edge, fits_leaf, fits_city, fits_cut, fits_condition, fits_open, fits_set, set_is_set}

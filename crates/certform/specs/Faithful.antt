@@ -4,7 +4,7 @@ use Rattle.tspdef.specs.Sets.{IsProper}
 use Rattle.tspdef.specs.Tours.{IsCanonical}
 use Rattle.tspdef.specs.Instances.{Instance, IsInstance, IsTourOf, length_in}
 use Rattle.tspdef.specs.Paths.{Condition, absent, present, two, four, is_decided, IsPair}
-use Rattle.tspdef.specs.Closings.{Closing, Fits}
+use Rattle.tspdef.specs.Closings.{Fits}
 use Rattle.tspdef.specs.Trees.{Tree, open_leaf, closed_leaf, edge_split, clique_split, IsSoundFor, open_leaves, settled}
 use Rattle.certdef.specs.Proofs.{Proof, text}
 use Rattle.certdef.specs.Accepted.{HasForm, IsSoundProof, IsAcceptedText, tree_in, most_bytes}

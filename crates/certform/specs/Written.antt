@@ -1,5 +1,5 @@
 -- The proof that is written for a tour and a tree: each cut that a leaf names is listed once, in order of first use.
-use Rattle.std.specs.Prelude.{◌≡◌, ℕ, ◌+◌, ◌≤◌, cond, nat_le, nat_eq, Bool, List, [], ◌∷◌, ◌++◌, length, map, ℤ, nat_abs, ◌==◌}
+use Rattle.std.specs.Prelude.{◌≡◌, ℕ, ◌+◌, cond, nat_le, Bool, List, [], ◌∷◌, ◌++◌, map, ℤ, nat_abs, ◌==◌}
 use Rattle.std.specs.List.{list_any}
 use Rattle.std.specs.Ordering.{eq_by_cmp}
 use Rattle.tspdef.specs.Tours.{IsCanonicalForm}

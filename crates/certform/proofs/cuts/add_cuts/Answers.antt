@@ -1,4 +1,4 @@
-use Rattle.std.proofs.Common.{◌≡◌, refl}
+use Rattle.std.proofs.Common.{refl}
 use Rattle.certform.specs.Written.{with_cuts}
 use Rattle.certform.proofs.Loops.{cuts_go, cuts_in}
 use Rattle.certform.proofs.cuts.add_cuts.Goals as goal

@@ -1,4 +1,4 @@
-use Rattle.std.proofs.Common.{◌≡◌, sym, ◌∙◌}
+use Rattle.std.proofs.Common.{sym, ◌∙◌}
 use Rattle.certform.proofs.Loops.{number_found, number_missing}
 use Rattle.certform.proofs.cuts.number_in.Goals as goal
 

@@ -1,4 +1,4 @@
-use Rattle.std.proofs.Common.{◌≡◌, ℕ, rules}
+use Rattle.std.proofs.Common.{ℕ, rules}
 use Rattle.std.proofs.lemmas.List.Sorted.{IsNonDecreasingBy-from_sort_by_key}
 use Rattle.certform.proofs.Permuting.{sorted_numbers}
 use Rattle.certform.proofs.Loops.{cuts_in}

@@ -1,4 +1,3 @@
-use Rattle.std.proofs.Common.{◌≡◌}
 use Rattle.std.proofs.lemmas.Result.{on_ok_weaker}
 use Rattle.certform.proofs.LineLemmas.{tour_puts}
 use Rattle.certform.proofs.lines.put_tour.Goals as goal

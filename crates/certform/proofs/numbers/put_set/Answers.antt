@@ -1,4 +1,3 @@
-use Rattle.std.proofs.Common.{◌≡◌}
 use Rattle.std.proofs.lemmas.Result.{on_ok_weaker}
 use Rattle.certform.proofs.LineLemmas.{set_puts}
 use Rattle.certform.proofs.numbers.put_set.Goals as goal

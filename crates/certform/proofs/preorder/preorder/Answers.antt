@@ -1,6 +1,5 @@
-use Rattle.std.proofs.Common.{◌≡◌, ◌++◌, [], ◌∷◌, rules, sym, ◌∙◌}
-use Rattle.treebook.specs.Tables.{tree_of, state_at}
-use Rattle.certform.specs.Walks.{stacked}
+use Rattle.std.proofs.Common.{rules}
+use Rattle.treebook.specs.Tables.{tree_of}
 use Rattle.certform.proofs.Walking.{walk_steps, walk_ends, top_is_node}
 use Rattle.certform.proofs.preorder.preorder.Goals as goal
 
