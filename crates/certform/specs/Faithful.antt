@@ -1,0 +1,50 @@
+-- What is written says what the tree says.
+use Rattle.std.specs.Prelude.{◌≡◌, ℕ, ◌+◌, ◌≤◌, false, List, [], ◌∷◌, ◌++◌, length}
+use Rattle.tspdef.specs.Sets.{IsProper}
+use Rattle.tspdef.specs.Tours.{IsCanonical}
+use Rattle.tspdef.specs.Instances.{Instance, IsInstance, IsTourOf, length_in}
+use Rattle.tspdef.specs.Paths.{Condition, absent, present, two, four, is_decided, IsPair}
+use Rattle.tspdef.specs.Closings.{Fits}
+use Rattle.tspdef.specs.Trees.{Tree, open_leaf, closed_leaf, edge_split, clique_split, IsSoundFor, open_leaves, settled}
+use Rattle.certdef.specs.Proofs.{Proof, text}
+use Rattle.certdef.specs.Accepted.{HasForm, IsSoundProof, IsAcceptedText, tree_in, most_bytes}
+use Rattle.treebook.specs.Tables.{Node, IsTable, tree_of}
+use Rattle.certform.specs.Written.{written}
+
+-- Each closed leaf has a closing that fits there, each edge split an undecided pair, each clique split a proper set.
+abbrev pub IsFitting : ℕ → List Condition → Tree → Type 0
+IsFitting n path open_leaf = Unit {0}
+IsFitting n path (closed_leaf c) = Fits n path c
+IsFitting n path (edge_split u v a b) = (IsPair n u v × (is_decided path u v ≡ false)) × (IsFitting n (path ++ absent u v ∷ []) a × IsFitting n (path ++ present u v ∷ []) b)
+IsFitting n path (clique_split s a b) = IsProper n s × (IsFitting n (path ++ two s ∷ []) a × IsFitting n (path ++ four s ∷ []) b)
+
+-- two trees are alike but for the order of the cuts in their leaves
+abbrev pub AreAlike : Tree → Tree → Type 0
+AreAlike open_leaf open_leaf = Unit {0}
+AreAlike (closed_leaf c) (closed_leaf d) = (d.city ≡ c.city) × (d.conds ≡ c.conds)
+AreAlike (edge_split u v a b) (edge_split x y c d) = ((x ≡ u) × (y ≡ v)) × (AreAlike a c × AreAlike b d)
+AreAlike (clique_split s a b) (clique_split r c d) = (r ≡ s) × (AreAlike a c × AreAlike b d)
+AreAlike _ _ = ⊥
+
+pub record IsFaithful (i : Instance) (l : ℕ) (t : Tree) (p : Proof) : Type 0 where
+  pub form : HasForm i.n p
+  pub sound : IsSoundProof i l p
+  pub alike : AreAlike t (tree_in i.n p)
+  pub opened : open_leaves (tree_in i.n p) ≡ open_leaves t
+  pub settled : settled (tree_in i.n p) ≡ settled t
+  pub size : length (text p) ≤ most_bytes
+
+-- What is written for a canonical tour, its length and a sound tree of at most 2^20 nodes is of the grammar, sound and has
+-- the same tree; so it is accepted where no leaf is open.
+abbrev pub WrittenIsFaithful : Type 0
+WrittenIsFaithful = (i : Instance) (tour : List ℕ) (l : ℕ) (t : Tree) → IsInstance i → IsTourOf i tour → IsCanonical tour
+    → l ≡ length_in i tour → IsSoundFor i l t → IsFitting i.n [] t → open_leaves t + settled t ≤ 1048576
+    → IsFaithful i l t (written i.n tour l t)
+
+-- A table's tree is fitting.
+abbrev pub TablesFit : Type 0
+TablesFit = (n : ℕ) (nodes : List Node) → IsTable n nodes → IsFitting n [] (tree_of nodes)
+
+-- What is faithful to a tree without an open leaf is the value of an accepted text.
+abbrev pub FaithfulIsAccepted : Type 0
+FaithfulIsAccepted = (i : Instance) (l : ℕ) (t : Tree) (p : Proof) → IsFaithful i l t p → open_leaves t ≡ 0 → IsAcceptedText i (text p) l

@@ -1,0 +1,6 @@
+pub mod Written
+pub mod Faithful
+pub mod Told
+pub mod Lines
+pub mod Walks
+pub mod Listing
