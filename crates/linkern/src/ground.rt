@@ -104,22 +104,38 @@ impl<'a> Ground<'a> {
 
     #[inline]
     pub fn next(&self, a: u32) -> u32 {
-        if a < self.tour.n() { self.tour.next(a) } else { 0 }
+        if a < self.tour.n() {
+            self.tour.next(a)
+        } else {
+            0
+        }
     }
 
     #[inline]
     pub fn prev(&self, a: u32) -> u32 {
-        if a < self.tour.n() { self.tour.prev(a) } else { 0 }
+        if a < self.tour.n() {
+            self.tour.prev(a)
+        } else {
+            0
+        }
     }
 
     #[inline]
     fn place(&self, a: u32) -> u32 {
-        if a < self.tour.n() { self.tour.place(a) } else { 0 }
+        if a < self.tour.n() {
+            self.tour.place(a)
+        } else {
+            0
+        }
     }
 
     #[inline]
     fn at(&self, place: u32) -> u32 {
-        if place < self.tour.n() { self.tour.at(place) } else { 0 }
+        if place < self.tour.n() {
+            self.tour.at(place)
+        } else {
+            0
+        }
     }
 
     /// The tour as a path from a city on, in its direction or against it.
@@ -135,7 +151,11 @@ impl<'a> Ground<'a> {
     #[inline]
     pub fn rank(&self, view: View, a: u32) -> u32 {
         let place = self.place(a);
-        let (from, to) = if view.against { (place, view.start) } else { (view.start, place) };
+        let (from, to) = if view.against {
+            (place, view.start)
+        } else {
+            (view.start, place)
+        };
         if from <= to {
             to - from
         } else {

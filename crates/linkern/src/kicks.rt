@@ -64,7 +64,11 @@ impl<'a> Work<'a> {
     /// Makes the tour shorter at a city, if it finds how; by how much.
     fn better(&mut self, a: u32) -> Result<i64, AllocError> {
         for against in [false, true] {
-            let b = if against { self.ground.prev(a) } else { self.ground.next(a) };
+            let b = if against {
+                self.ground.prev(a)
+            } else {
+                self.ground.next(a)
+            };
             let gain = self.search.from_step(&self.ground, a, b, against)?;
             if gain > 0 {
                 self.make(against)?;
@@ -91,7 +95,9 @@ impl<'a> Work<'a> {
     fn drain(&mut self) -> Result<i64, AllocError> {
         let mut all: i64 = 0;
         for place in 0..1_000_000_000usize {
-            let Some(a) = self.queue.get(place).copied() else { break };
+            let Some(a) = self.queue.get(place).copied() else {
+                break
+            };
             if let Some(waits) = self.waits.get_mut(a as usize) {
                 *waits = false;
             }

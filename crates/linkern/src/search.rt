@@ -71,15 +71,17 @@ const NO_CYCLE: Cycle = Cycle {
     ahead: false,
 };
 
-/// A depth of the search: the path's first city, its parts from `start` on, and what is left to try.
+/// A depth of the search: the path's first city, its parts, and its choices, of which the last is the next to be tried.
 #[derive(Clone, Copy)]
 struct Level {
     first: u32,
+    /// Where the parts begin, and how many there are.
     start: usize,
     count: usize,
+    /// How many turns lead here.
     turns: usize,
-    choices: [Choice; 5],
-    taken: usize,
+    /// How many choices there are of the depths above.
+    above: usize,
 }
 
 /// A search from one step of the tour.
@@ -87,6 +89,7 @@ struct Level {
 pub struct Search {
     levels: Vec<Level>,
     parts: Vec<Part>,
+    choices: Vec<Choice>,
     turns: Vec<(u32, u32)>,
     best: Vec<(u32, u32)>,
     gain: i64,
@@ -237,6 +240,7 @@ impl Search {
         Search {
             levels: Vec::new(alloc),
             parts: Vec::new(alloc),
+            choices: Vec::new(alloc),
             turns: Vec::new(alloc),
             best: Vec::new(alloc),
             gain: 0,
@@ -276,15 +280,28 @@ impl Search {
     ) -> Result<(), AllocError> {
         let parts = self.parts_from(start);
         let count = parts.len();
-        let choices = choices(ground, view, parts, t1, first, open, self.gain, breadth(depth));
+        let best = choices(
+            ground,
+            view,
+            parts,
+            t1,
+            first,
+            open,
+            self.gain,
+            breadth(depth),
+        );
         self.levels.push(Level {
             first,
             start,
             count,
             turns: self.turns.len(),
-            choices,
-            taken: 0,
+            above: self.choices.len(),
         })?;
+        for choice in best.iter().rev() {
+            if choice.open > NO_GAIN {
+                self.choices.push(*choice)?;
+            }
+        }
         Ok(())
     }
 
@@ -297,7 +314,13 @@ impl Search {
             last: split.first,
         })?;
         for back in 0..place {
-            let part = self.part(level.start.wrapping_add(place).wrapping_sub(1).wrapping_sub(back));
+            let part = self.part(
+                level
+                    .start
+                    .wrapping_add(place)
+                    .wrapping_sub(1)
+                    .wrapping_sub(back),
+            );
             self.parts.push(Part {
                 first: part.last,
                 last: part.first,
@@ -325,22 +348,26 @@ impl Search {
     }
 
     /// Takes the next choice of the last depth, or leaves it where there is none. Whether the search goes on.
-    fn advance(&mut self, ground: &Ground, view: View, t1: u32, above: usize) -> Result<bool, AllocError> {
+    fn advance(
+        &mut self,
+        ground: &Ground,
+        view: View,
+        t1: u32,
+        above: usize,
+    ) -> Result<bool, AllocError> {
         let depth = self.levels.len().wrapping_add(above);
-        let Some(last) = self.levels.last_mut() else {
+        let Some(level) = self.levels.last().copied() else {
             return Ok(false);
         };
-        let choice = match last.choices.get(last.taken) {
-            Some(choice) => *choice,
-            None => NO_CHOICE,
-        };
-        last.taken = last.taken.wrapping_add(1);
-        let level = *last;
-        if choice.open == NO_GAIN {
-            self.levels.truncate(self.levels.len().saturating_sub(1));
+        if self.choices.len() <= level.above {
+            self.levels
+                .truncate(depth.wrapping_sub(above).wrapping_sub(1));
             self.parts.truncate(level.start);
             return Ok(self.gain <= 0);
         }
+        let Some(choice) = self.choices.pop() else {
+            return Ok(false);
+        };
         self.turns.truncate(level.turns);
         self.turns.push((level.first, choice.end))?;
         self.close(choice.open.wrapping_sub(ground.d(choice.end, t1)))?;
@@ -354,7 +381,13 @@ impl Search {
     }
 
     /// Searches on from the last depth, with so many steps added above it.
-    fn explore(&mut self, ground: &Ground, view: View, t1: u32, above: usize) -> Result<(), AllocError> {
+    fn explore(
+        &mut self,
+        ground: &Ground,
+        view: View,
+        t1: u32,
+        above: usize,
+    ) -> Result<(), AllocError> {
         for _ in 0..1_000_000u32 {
             if !self.advance(ground, view, t1, above)? {
                 break;
@@ -362,11 +395,19 @@ impl Search {
         }
         self.levels.clear();
         self.parts.clear();
+        self.choices.clear();
         Ok(())
     }
 
     /// Searches on from the path after an exchange of three steps.
-    fn explore_cycle(&mut self, ground: &Ground, view: View, t1: u32, t2: u32, cycle: &Cycle) -> Result<(), AllocError> {
+    fn explore_cycle(
+        &mut self,
+        ground: &Ground,
+        view: View,
+        t1: u32,
+        t2: u32,
+        cycle: &Cycle,
+    ) -> Result<(), AllocError> {
         self.turns.clear();
         if cycle.ahead {
             self.turns.push((t2, cycle.near))?;
@@ -405,7 +446,13 @@ impl Search {
 
     /// Looks for a better tour without the step from `t1` to `t2`, which is the next city, or the one before where the tour
     /// is read against its direction. By how much it is shorter; 0 where none was found.
-    pub fn from_step(&mut self, ground: &Ground, t1: u32, t2: u32, against: bool) -> Result<i64, AllocError> {
+    pub fn from_step(
+        &mut self,
+        ground: &Ground,
+        t1: u32,
+        t2: u32,
+        against: bool,
+    ) -> Result<i64, AllocError> {
         let view = ground.view(t2, against);
         self.gain = 0;
         self.best.clear();

@@ -53,12 +53,7 @@ fn gain_at(instance: &Instance, tour: &ArrayTour, a: u32, c: u32) -> Option<Exch
 }
 
 /// An exchange that joins a city to one of its list and shortens the tour.
-fn gain_near(
-    instance: &Instance,
-    near: &Neigh,
-    tour: &ArrayTour,
-    a: u32,
-) -> Option<Exchange>
+fn gain_near(instance: &Instance, near: &Neigh, tour: &ArrayTour, a: u32) -> Option<Exchange>
     requires city { a < length tour.now }
     requires cities { instance.now.n ≡ length tour.now }
     requires lists { near.now.n ≡ length tour.now }
