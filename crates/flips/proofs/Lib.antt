@@ -1,0 +1,11 @@
+pub mod Words
+pub mod Turns
+pub mod Swaps
+pub mod Mirrors
+pub mod Paths
+pub mod Steps
+pub mod Tours
+pub mod Lengths
+pub mod Bridges
+pub mod Betweens
+pub mod Readings
