@@ -1,0 +1,7 @@
+mod Products
+mod Bounds
+mod CellLemmas
+mod Sums
+mod Changes
+mod BestSteps
+mod Sweeps

@@ -1,0 +1,6 @@
+pub mod Sizes
+pub mod Rows
+pub mod Answers
+pub mod Rests
+pub mod Cells
+pub mod Steps

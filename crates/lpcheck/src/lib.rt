@@ -1,0 +1,22 @@
+//! The exact check of an answer of a linear program over rows of city sets, in whole units of 2^-20, and duals at rest.
+//! Nothing here searches: whoever proposes values and duals, this crate says what they are worth.
+#![tactic(auto)]
+
+mod answer;
+mod cells;
+mod check;
+mod column;
+
+mod numbers;
+mod piece;
+mod place;
+mod reduced;
+mod rest;
+mod row;
+mod step;
+
+pub use cells::{Cell, Cells, table_of};
+pub use column::Column;
+pub use answer::{Judged, judge};
+pub use row::{Row, Sense};
+
