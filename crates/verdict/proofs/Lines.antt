@@ -121,7 +121,7 @@ rises_small from n (c ∷ cs) h e =
     let b = leb-true c n (and_parts (nat_le from c) (nat_le c n) a.0).1 in
     (omega arith, rises_small (c + 1) n cs h a.1)
 
-rises_length : (from n : ℕ) (cs : List ℕ) → from ≤ n + 1 → rises from n cs ≡ true → length cs + from ≤ n + 1
+pub rises_length : (from n : ℕ) (cs : List ℕ) → from ≤ n + 1 → rises from n cs ≡ true → length cs + from ≤ n + 1
 rises_length from n [] h e = omega arith
 rises_length from n (c ∷ cs) h e =
     let a = and_parts (nat_le from c && nat_le c n) (rises (c + 1) n cs) e in
