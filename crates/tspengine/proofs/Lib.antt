@@ -1,0 +1,5 @@
+mod Tells
+mod Fronts
+mod Finishing
+mod Writing
+mod Ends

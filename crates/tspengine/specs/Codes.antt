@@ -1,0 +1,14 @@
+-- Exit statuses.
+use Rattle.std.specs.Prelude.{ℕ}
+use Rattle.tspengine.specs.declared.statuses.Status.{Status}
+use Rattle.tspengine.specs.declared.statuses.Status.TheVariants as status
+
+abbrev pub code_of : Status → ℕ
+code_of status.Optimal = 0
+code_of status.Usage = 2
+code_of status.BadInstance = 3
+code_of status.Stopped = 5
+code_of status.ReadFault = 6
+code_of status.WriteFault = 7
+code_of status.StoreFault = 8
+code_of status.NoMemory = 9

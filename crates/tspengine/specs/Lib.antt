@@ -1,0 +1,9 @@
+pub mod Texts
+pub mod Outcomes
+pub mod Codes
+pub mod Names
+pub mod Answers
+pub mod Transfers
+pub mod Readings
+pub mod Finishes
+pub mod Runs

@@ -1,0 +1,44 @@
+-- What came of an instance: a proof that a tour is shortest, or a body to go on from.
+use Rattle.std.specs.Prelude.{◌≡◌, ℕ, ◌<◌, ◌≤◌, List, []}
+use Rattle.tspdef.specs.Tours.{IsCanonical}
+use Rattle.tspdef.specs.Instances.{Instance, IsTourOf, length_in}
+use Rattle.tspdef.specs.Trees.{open_leaves, settled}
+use Rattle.certdef.specs.Proofs.{Proof, text}
+use Rattle.certdef.specs.Accepted.{HasForm, IsSoundProof, IsAcceptedText, IsTextOf, from_zero, tree_in}
+use Rattle.plainsearch.specs.Splits.{SplitsAreNeeded, opening_length}
+use Rattle.tspengine.specs.Texts.{optimal_text, stopped_text}
+use Rattle.tspengine.specs.declared.outcomes.Outcome.{Outcome}
+use Rattle.tspengine.specs.declared.outcomes.Outcome.TheVariants as outcome
+
+-- The printed tour visits each city once, no tour is shorter, and the proof is the text of an accepted value with this tour
+-- and this length.
+pub record IsOptimal (i : Instance) (proof printed : List ℕ) : Type 0 where
+  pub tour : List ℕ
+  pub length : ℕ
+  pub value : Proof
+  pub prints : printed ≡ optimal_text length tour
+  pub is_tour : IsTourOf i tour
+  pub canonical : IsCanonical tour
+  pub long : length ≡ length_in i tour
+  pub shortest : (other : List ℕ) → IsTourOf i other → length ≤ length_in i other
+  pub written : IsTextOf i proof length value
+  pub same : from_zero value.tour ≡ tour
+  pub accepted : IsAcceptedText i proof length
+
+-- The body is the text of a value whose tree is sound for its length, with the budget's number of settled nodes and with open
+-- ones, and each of its splits was needed: a pair was undecided, and zero duals did not close the node for the opening length.
+-- Its length and the number of its open leaves are printed.
+pub record IsStopped (i : Instance) (budget : ℕ) (body printed : List ℕ) : Type 0 where
+  pub value : Proof
+  pub prints : printed ≡ stopped_text value.long (open_leaves (tree_in i.n value))
+  pub is_text : body ≡ text value
+  pub form : HasForm i.n value
+  pub sound : IsSoundProof i value.long value
+  pub some_open : 0 < open_leaves (tree_in i.n value)
+  pub settled : settled (tree_in i.n value) ≡ budget
+  pub needed : SplitsAreNeeded i (opening_length i) [] (tree_in i.n value)
+
+-- what came of an instance within a budget
+abbrev pub IsOutcome : Instance → ℕ → Outcome → Type 0
+IsOutcome i budget (outcome.Optimal proof printed) = IsOptimal i proof.items printed.items
+IsOutcome i budget (outcome.Stopped body printed) = IsStopped i budget body.items printed.items

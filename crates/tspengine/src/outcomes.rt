@@ -1,0 +1,87 @@
+//! From an instance to a proof that a tour is shortest, or to a body to go on from.
+ghost use Rattle.std.specs.Prelude.{◌≡◌, ℕ, ◌<◌, ◌≤◌, IfOk, length};
+ghost use Rattle.tspdef.specs.Trees.{open_leaves, settled};
+ghost use Rattle.treebook.specs.Tables.{tree_of};
+ghost use Rattle.certform.specs.Written.{IsBody};
+ghost use Rattle.plainsearch.specs.Searches.{IsFound};
+ghost use Rattle.tspengine.specs.Outcomes.{IsOutcome};
+
+use crate::texts::{optimal_text, stopped_text};
+use certform::{body, tables_fit, written_is_faithful};
+use plainsearch::{Found, search};
+use std::alloc::{AllocError, Global};
+use tspdef::{accepted_is_optimal, tours_are_cycles};
+use tspinst::Instance;
+
+/// What came of an instance, with the text to print.
+#[derive(Drop)]
+pub enum Outcome {
+    /// The proof that a tour is shortest.
+    Optimal { proof: Vec<u8>, printed: Vec<u8> },
+    /// The body to go on from.
+    Stopped { body: Vec<u8>, printed: Vec<u8> },
+}
+
+/// Searches within a budget, and writes down what was found.
+pub(crate) fn outcome_of(
+    alloc: Global,
+    instance: &Instance,
+    budget: u32,
+) -> Result<Outcome, AllocError>
+    requires { budget ≤ 65536 }
+    ensures { IfOk result (IsOutcome instance.now budget) }
+{
+    let found = search(alloc, instance, budget)?;
+    let body = body(alloc, instance, &found.best, &found.tree)?;
+    if found.tree.open_nodes() == 0 {
+        optimal(alloc, instance, &found, body)
+    } else {
+        stopped(alloc, instance, budget, &found, body)
+    }
+}
+
+/// The body has no open leaf: it is a proof.
+fn optimal(
+    alloc: Global,
+    instance: &Instance,
+    found: &Found,
+    proof: Vec<u8>,
+) -> Result<Outcome, AllocError>
+    requires found { IsFound instance.now found.now }
+    requires few { length found.now.tree.nodes ≤ 1048576 }
+    requires none_open { open_leaves (tree_of found.now.tree.nodes) ≡ 0 }
+    requires proof { IsBody instance.now found.now.best (tree_of found.now.tree.nodes) proof.items }
+    ensures { (budget : ℕ) → IfOk result (IsOutcome instance.now budget) }
+{
+    accepted_is_optimal();
+    tours_are_cycles();
+    tables_fit();
+    written_is_faithful();
+    let _known = (instance.n(), found.tree.n(), found.tree.nodes());
+    let tour = found.best.canonical(alloc)?;
+    let printed = optimal_text(alloc, found.length, tour.cities())?;
+    Ok(Outcome::Optimal { proof, printed })
+}
+
+/// The budget is settled, and a leaf of the body is open.
+fn stopped(
+    alloc: Global,
+    instance: &Instance,
+    budget: u32,
+    found: &Found,
+    body: Vec<u8>,
+) -> Result<Outcome, AllocError>
+    requires found { IsFound instance.now found.now }
+    requires few { length found.now.tree.nodes ≤ 1048576 }
+    requires some_open { 0 < open_leaves (tree_of found.now.tree.nodes) }
+    requires settled { settled (tree_of found.now.tree.nodes) ≡ budget }
+    requires body { IsBody instance.now found.now.best (tree_of found.now.tree.nodes) body.items }
+    ensures { IfOk result (IsOutcome instance.now budget) }
+{
+    tours_are_cycles();
+    tables_fit();
+    written_is_faithful();
+    let _known = (instance.n(), found.tree.n(), found.tree.nodes());
+    let printed = stopped_text(alloc, found.length, found.tree.open_nodes())?;
+    Ok(Outcome::Stopped { body, printed })
+}

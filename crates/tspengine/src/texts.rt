@@ -1,0 +1,49 @@
+//! The texts that are printed.
+ghost use Rattle.std.specs.Prelude.{◌≡◌, ◌++◌, IfOk, OnOk, string_bytes};
+ghost use Rattle.tspengine.specs.Texts as texts;
+ghost use Rattle.tspengine.specs.Texts.{cities_text};
+
+use std::alloc::{AllocError, Global};
+use tspinst::Refusal;
+
+/// What is printed where the words are not of a command's form.
+pub(crate) const USAGE: &str = "USAGE tspc solve/verify/tour/bench\n";
+
+/// A shortest tour and its length.
+pub(crate) fn optimal_text(
+    alloc: Global,
+    length: u64,
+    tour: &[u32],
+) -> Result<Vec<u8>, AllocError>
+    ensures { IfOk result (λ t. t.items ≡ texts.optimal_text length tour.now) }
+{
+    let mut text = format!(in alloc; "OPTIMAL {length}\nTOUR")?;
+    push_cities(alloc, &mut text, tour)?;
+    text.push_str("\n")?;
+    Ok(text.into_bytes())
+}
+
+/// Each city, from 1, behind a space.
+fn push_cities(alloc: Global, text: &mut String, tour: &[u32]) -> Result<(), AllocError>
+    ensures { OnOk result (string_bytes text.new ≡ string_bytes text.old ++ cities_text tour.now) }
+{
+    for city in tour {
+        let number = u64::from(*city) + 1;
+        text.push_str(&format!(in alloc; " {number}")?)?;
+    }
+    Ok(())
+}
+
+/// The best length so far, and how many nodes are open.
+pub(crate) fn stopped_text(alloc: Global, best: u64, open_nodes: u32) -> Result<Vec<u8>, AllocError>
+    ensures { IfOk result (λ t. t.items ≡ texts.stopped_text best open_nodes) }
+{
+    Ok(format!(in alloc; "STOPPED {best} {open_nodes}\n")?.into_bytes())
+}
+
+/// The first refusal of an instance's text.
+pub(crate) fn instance_text(alloc: Global, refusal: Refusal) -> Result<Vec<u8>, AllocError>
+    ensures { IfOk result (λ t. t.items ≡ texts.instance_text refusal) }
+{
+    Ok(format!(in alloc; "INSTANCE {refusal}\n")?.into_bytes())
+}
