@@ -12,3 +12,6 @@ mod texts;
 pub use running::run;
 pub use statuses::Status;
 
+
+#[cfg(test)]
+mod tests;
