@@ -37,9 +37,13 @@ impl Numbers {
         }
     }
 
-    /// A dual of a city, of either sign.
-    fn city_dual(&mut self) -> i64 {
-        (self.next() as i64 - (1 << 31)) * 256
+    /// A dual of a city, of either sign: of a size up to 2^39, or up to 2^59.
+    fn city_dual(&mut self, large: bool) -> i64 {
+        if large {
+            (self.next() as i64 - (1 << 31)) * (1 << 28)
+        } else {
+            (self.next() as i64 - (1 << 31)) * 256
+        }
     }
 
     /// A dual of a set.
@@ -223,8 +227,9 @@ fn cuts(
 
 fn city_duals(alloc: Global, numbers: &mut Numbers, n: u32) -> Result<Vec<i64>, Fail> {
     let mut city = Vec::new(alloc);
+    let large = numbers.below(2) == 1;
     for _ in 0..n {
-        city.push(numbers.city_dual())?;
+        city.push(numbers.city_dual(large))?;
     }
     Ok(city)
 }

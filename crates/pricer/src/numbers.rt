@@ -1,6 +1,6 @@
 //! Sums of numbers that are far from the limits of their type.
 
-ghost use Rattle.std.specs.Prelude.{◌≡◌, ℕ, ◌+◌, ◌*◌, ◌^◌, ◌<◌, ◌≤◌, IfSome, pos, neg_ℤ, ◌+ℤ◌, ◌-ℤ◌, ◌≤ℤ◌};
+ghost use Rattle.std.specs.Prelude.{◌≡◌, ℕ, ◌+◌, ◌*◌, ◌^◌, ◌<◌, ◌≤◌, MatchOption, pos, neg_ℤ, ◌+ℤ◌, ◌-ℤ◌, ◌≤ℤ◌};
 ghost use Rattle.std.specs.Int.{int_min};
 ghost use Rattle.tspdef.specs.Bounds.{scale};
 ghost use Rattle.pricer.specs.Sizes.{IsWithin};
@@ -81,7 +81,7 @@ pub fn small_below_zero(x: i64) -> u64
 /// The number itself, if it is small.
 pub fn small_of(x: i128) -> Option<i64>
     requires { IsWithin (2 ^ 100) x }
-    ensures { IfSome result (λ y. (y ≡ x) × IsWithin (2 ^ 50) y) }
+    ensures { MatchOption result (¬ IsWithin (2 ^ 50) x) (λ y. (y ≡ x) × IsWithin (2 ^ 50) y) }
 {
     if x < -SMALL || x > SMALL {
         None

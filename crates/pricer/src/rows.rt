@@ -1,6 +1,6 @@
 //! Numbers at cities, and the sums of the pairs of a city.
 
-ghost use Rattle.std.specs.Prelude.{◌≡◌, ℕ, ◌*◌, ◌^◌, ◌<◌, ◌≤◌, true, length, cond, IfSome, pos, neg_ℤ, ◌+ℤ◌};
+ghost use Rattle.std.specs.Prelude.{◌≡◌, ℕ, ◌*◌, ◌^◌, ◌<◌, ◌≤◌, true, false, length, cond, IfSome, pos, neg_ℤ, ◌+ℤ◌};
 ghost use Rattle.std.specs.Int.{int_min};
 ghost use Rattle.tspdef.specs.Sets.{has, RisesFrom};
 ghost use Rattle.tspdef.specs.Sums.{sum_below};
@@ -63,7 +63,8 @@ pub fn row_loss(instance: &Instance, v: u32, base: i128, price: &[i128], own: &[
 pub fn narrow(numbers: &[i128], small: &mut [i64]) -> bool
     requires long { length small.old ≡ length numbers.now }
     requires numbers { (c : ℕ) → IsWithin (2 ^ 100) (at numbers.now c) }
-    ensures { result ≡ true → AreSmall numbers.now small.new }
+    ensures small { result ≡ true → AreSmall numbers.now small.new }
+    ensures large { result ≡ false → ¬ ((c : ℕ) → IsWithin (2 ^ 50) (at numbers.now c)) }
 {
     for i in 0..numbers.len() {
         let Some(x) = small_of(numbers[i]) else {
