@@ -1,8 +1,8 @@
 -- From settled pairs to a tour at rest.
-use Rattle.std.proofs.Common.{◌≡◌, ◌≢◌, ℕ, zero, suc, ◌+◌, ◌*◌, ◌<◌, ◌≤◌, Bool, true, false, eqb, ◌||◌, List, [], ◌∷◌, length, get_or, refl, sym, ◌∙◌, ap, subst, arith, ⊎_elim}
+use Rattle.std.proofs.Common.{◌≡◌, ℕ, suc, ◌+◌, ◌<◌, ◌≤◌, true, false, eqb, List, [], ◌∷◌, length, get_or, sym, subst, arith, ⊎_elim}
 use Rattle.std.proofs.lemmas.Bool.{or_cases, eqb-true}
 use Rattle.tspdef.specs.Sets.{has}
-use Rattle.tspdef.specs.Tours.{IsTour, tour_length}
+use Rattle.tspdef.specs.Tours.{IsTour}
 use Rattle.tspdef.specs.Instances.{Instance, dist, length_in}
 use Rattle.tspdef.proofs.Duality.{dist-sym}
 use Rattle.neigh.specs.Near.{Near, near_to}

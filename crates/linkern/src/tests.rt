@@ -12,20 +12,28 @@ fn of_points(alloc: Global, points: &[Point]) -> Result<Instance, AllocError> {
     from_points(alloc, Kind::Euc, points)
 }
 
+/// The next of some numbers that look drawn.
+fn next(state: u64) -> u64 {
+    state
+        .wrapping_mul(6_364_136_223_846_793_005)
+        .wrapping_add(1_442_695_040_888_963_407)
+}
+
+/// A point of two numbers.
+fn point(first: u64, second: u64) -> Point {
+    let x = (first >> 44) as i32;
+    let y = (second >> 44) as i32;
+    Point::new(x & 0xf_ffff, y & 0xf_ffff)
+}
+
 /// So many points that look drawn.
 fn drawn(alloc: Global, count: u32, seed: u64) -> Result<Vec<Point>, AllocError> {
     let mut points = Vec::new(alloc);
     let mut state = seed;
     for _ in 0..count {
-        state = state
-            .wrapping_mul(6_364_136_223_846_793_005)
-            .wrapping_add(1_442_695_040_888_963_407);
-        let x = (state >> 44) as i32;
-        state = state
-            .wrapping_mul(6_364_136_223_846_793_005)
-            .wrapping_add(1_442_695_040_888_963_407);
-        let y = (state >> 44) as i32;
-        points.push(Point::new(x & 0xf_ffff, y & 0xf_ffff))?;
+        let first = next(state);
+        state = next(first);
+        points.push(point(first, state))?;
     }
     Ok(points)
 }

@@ -1,5 +1,5 @@
-use Rattle.std.proofs.Common.{◌≡◌, length, arith}
-use Rattle.linkern.proofs.RestLemmas.{two_before, settled_from, settled_itself, less_at, at_most_at}
+use Rattle.std.proofs.Common.{length}
+use Rattle.linkern.proofs.RestLemmas.{two_before, settled_from, less_at, at_most_at}
 use Rattle.linkern.proofs.settle.gain_at.Goals as goal
 
 pub returns-then-d-joined : goal.returns-then-d-joined

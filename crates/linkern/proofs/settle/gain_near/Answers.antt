@@ -1,6 +1,5 @@
-use Rattle.std.proofs.Common.{◌≡◌, ◌<◌, ℕ, true, length, get_or, sym, ◌∙◌, ap, subst, arith}
+use Rattle.std.proofs.Common.{◌≡◌, true, sym, subst, arith}
 use Rattle.tspdef.specs.Sets.{has}
-use Rattle.neigh.specs.Near.{near_to}
 use Rattle.linkern.specs.Exchanges.{IsSettled}
 use Rattle.linkern.proofs.RestLemmas.{has_place}
 use Rattle.linkern.proofs.settle.gain_near.Goals as goal
