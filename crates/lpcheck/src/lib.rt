@@ -6,7 +6,6 @@ mod answer;
 mod cells;
 mod check;
 mod column;
-
 mod numbers;
 mod piece;
 mod place;
@@ -15,8 +14,7 @@ mod rest;
 mod row;
 mod step;
 
+pub use answer::{Judged, judge};
 pub use cells::{Cell, Cells, table_of};
 pub use column::Column;
-pub use answer::{Judged, judge};
 pub use row::{Row, Sense};
-

@@ -29,9 +29,9 @@ pub read_silent : (names : Names) (slots : Option SlotsTold) (i : Instance) (s :
     → BothTell (ReadsInstance names.instance i) a b → BothTell (EndsDesk names slots s) a b
 read_silent names slots i s which a b r = both_to (ReadsInstance names.instance i) (EndsDesk names slots s)
     (λ t u is. subst (EndsDesk names slots s t) (sym is.others) (⊎_elim
-      (λ e. subst (λ (x : Status). EndsDesk names slots x t (read_told names.instance t)) (sym e) (record { ended = record { proof = refl; printed = refl }; keeps = read_keeps names t }))
-      (λ e. subst (λ (x : Status). EndsDesk names slots x t (read_told names.instance t)) (sym e) (record { ended = record { proof = refl; printed = refl }; keeps = read_keeps names t }))
-      which))
+    (λ e. subst (λ (x : Status). EndsDesk names slots x t (read_told names.instance t)) (sym e) (record { ended = record { proof = refl; printed = refl }; keeps = read_keeps names t }))
+    (λ e. subst (λ (x : Status). EndsDesk names slots x t (read_told names.instance t)) (sym e) (record { ended = record { proof = refl; printed = refl }; keeps = read_keeps names t }))
+    which))
     a b r
 
 -- ---- a refusal
@@ -85,20 +85,20 @@ pub refused_ends : (names : Names) (slots : Option SlotsTold) (r : Refusal) (s :
     → BothTell (EndsDesk names slots s) a c
 refused_ends names slots r s a b c refuses which whole torn same = ⊎_elim
     (λ e. subst (λ (x : Status). BothTell (EndsDesk names slots x) a c) (sym e)
-      (both_then (RefusesInstance names.instance r) (Adds outlet.Text (instance_text r)) (EndsDesk names slots status.BadInstance)
-      (λ t u v is f. subst (EndsDesk names slots status.BadInstance t) (sym (f ∙ ap (with_added outlet.Text (instance_text r)) is.others)) (refused_at names slots r t u is))
-      a b c refuses (whole e)))
+    (both_then (RefusesInstance names.instance r) (Adds outlet.Text (instance_text r)) (EndsDesk names slots status.BadInstance)
+    (λ t u v is f. subst (EndsDesk names slots status.BadInstance t) (sym (f ∙ ap (with_added outlet.Text (instance_text r)) is.others)) (refused_at names slots r t u is))
+    a b c refuses (whole e)))
     (λ more. ⊎_elim
-      (λ e. subst (λ (x : Status). BothTell (EndsDesk names slots x) a c) (sym e)
-        (let (k, front) = torn e in both_then (RefusesInstance names.instance r) (Adds outlet.Text (take k (instance_text r))) (EndsDesk names slots status.WriteFault)
-        (λ t u v is f. subst (EndsDesk names slots status.WriteFault t) (sym (f ∙ ap (with_added outlet.Text (take k (instance_text r))) is.others)) (torn_at names slots r k t u is))
-        a b c refuses front))
-      (λ e. subst (λ (x : Status). BothTell (EndsDesk names slots x) a c) (sym e)
-        (subst (λ (x : Option Told). BothTell (EndsDesk names slots status.NoMemory) a x) (sym (same e))
-        (both_to (RefusesInstance names.instance r) (EndsDesk names slots status.NoMemory)
-        (λ t u is. subst (EndsDesk names slots status.NoMemory t) (sym is.others) (silent_at names slots r t u is))
-        a b refuses)))
-      more)
+    (λ e. subst (λ (x : Status). BothTell (EndsDesk names slots x) a c) (sym e)
+    (let (k, front) = torn e in both_then (RefusesInstance names.instance r) (Adds outlet.Text (take k (instance_text r))) (EndsDesk names slots status.WriteFault)
+    (λ t u v is f. subst (EndsDesk names slots status.WriteFault t) (sym (f ∙ ap (with_added outlet.Text (take k (instance_text r))) is.others)) (torn_at names slots r k t u is))
+    a b c refuses front))
+    (λ e. subst (λ (x : Status). BothTell (EndsDesk names slots x) a c) (sym e)
+    (subst (λ (x : Option Told). BothTell (EndsDesk names slots status.NoMemory) a x) (sym (same e))
+    (both_to (RefusesInstance names.instance r) (EndsDesk names slots status.NoMemory)
+    (λ t u is. subst (EndsDesk names slots status.NoMemory t) (sym is.others) (silent_at names slots r t u is))
+    a b refuses)))
+    more)
     which
 
 -- ---- an outcome

@@ -64,7 +64,7 @@ written_optimal faithful_law accepted_law optimal_law same_law one_law i best to
     let as_long : l ≡ length_in i tour = long ∙ sym same.long in
     let faithful = faithful_law i tour l t is same.is_tour is_tour.canonical as_long sound fits few in
     let e : proof ≡ text (written i.n tour l t) = bytes ∙ ap (λ (f : List ℕ). text (written i.n f (length_in i f) t)) one
-      ∙ ap (λ (m : ℕ). text (written i.n tour m t)) (sym as_long) in
+    ∙ ap (λ (m : ℕ). text (written i.n tour m t)) (sym as_long) in
     record {
       tour = tour;
       length = l;
@@ -74,7 +74,7 @@ written_optimal faithful_law accepted_law optimal_law same_law one_law i best to
       canonical = is_tour.canonical;
       long = as_long;
       shortest = λ other o. optimal_law i tour other l t many
-        (record { is_tour = same.is_tour; canonical = is_tour.canonical; long = as_long; sound = sound; none_open = none }) o;
+          (record { is_tour = same.is_tour; canonical = is_tour.canonical; long = as_long; sound = sound; none_open = none }) o;
       written = record { text = e; form = faithful.form; accepted = record { sound = faithful.sound; none_open = faithful.opened ∙ none } };
       same = from_zero-from_one tour;
       accepted = subst (λ (b : List ℕ). IsAcceptedText i b l) (sym e) (accepted_law i l t (written i.n tour l t) faithful none);

@@ -12,6 +12,5 @@ mod texts;
 pub use running::run;
 pub use statuses::Status;
 
-
 #[cfg(test)]
 mod tests;

@@ -52,7 +52,7 @@ pub fn run<R, D: Desk, L: Slots>(
     ensures silent { IsSilent result → BothTell TakesNothing (D.told desk.old) (D.told desk.new) }
     ensures torn { result ≡ Status.WriteFault
         → (IsTaken (map string_bytes words.now)
-            × BothTell (IsTornRun (names_of (map string_bytes words.now)) (L.told slots.new)) (D.told desk.old) (D.told desk.new))
+        × BothTell (IsTornRun (names_of (map string_bytes words.now)) (L.told slots.new)) (D.told desk.old) (D.told desk.new))
         ⊎ (¬ IsTaken (map string_bytes words.now) × BothTell IsTornUsage (D.told desk.old) (D.told desk.new)) }
     ensures desk { BothTell (KeepsDesk (names_of (map string_bytes words.now))) (D.told desk.old) (D.told desk.new) }
     ensures slots { BothTell (EndsSlots (names_of (map string_bytes words.now)) result) (L.told slots.old) (L.told slots.new) }

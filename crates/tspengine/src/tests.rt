@@ -9,7 +9,8 @@ use tspplain::search::least_tour;
 use tspplain::tours::tour_length;
 use tspplain::values::Instance;
 
-const SQUARE: &str = "NAME : square\nTYPE : TSP\nDIMENSION : 4\nEDGE_WEIGHT_TYPE : EUC_2D\nNODE_COORD_SECTION\n1 0 0\n2 0 10\n3 10 10\n4 10 0\nEOF\n";
+const SQUARE: &str =
+    "NAME : square\nTYPE : TSP\nDIMENSION : 4\nEDGE_WEIGHT_TYPE : EUC_2D\nNODE_COORD_SECTION\n1 0 0\n2 0 10\n3 10 10\n4 10 0\nEOF\n";
 
 const BODY: &[u8] = b"TSPCERT 1\nN 4\nLENGTH 40\nTOUR 1 2 3 4\nCUTS 0\nO\n";
 
@@ -91,7 +92,10 @@ fn small_instances_are_solved(rt: HostRuntime) -> Result<(), Fail> {
     let square = solved(alloc, "tspc solve a b c", SQUARE)?;
     assert_eq!(rt; square.status, Status::Optimal);
     assert_eq!(rt; square.text(), b"OPTIMAL 40\nTOUR 1 2 3 4\n".as_slice());
-    assert_eq!(rt; square.desk.proof()[..40], b"TSPCERT 1\nN 4\nLENGTH 40\nTOUR 1 2 3 4\nCUT"[..]);
+    assert_eq!(rt;
+        square.desk.proof()[..40],
+        b"TSPCERT 1\nN 4\nLENGTH 40\nTOUR 1 2 3 4\nCUT"[..]
+    );
     assert_eq!(rt; square.desk.proof_path(), Some(b"b".as_slice()));
     assert_eq!(rt; square.slots.path(), Some(b"c".as_slice()));
     assert_eq!(rt; square.slots.slot(0), b"".as_slice());
@@ -199,7 +203,10 @@ fn other_words_are_usage(rt: HostRuntime) -> Result<(), Fail> {
     ] {
         let ended = solved(alloc, line, SQUARE)?;
         assert_eq!(rt; ended.status, Status::Usage);
-        assert_eq!(rt; ended.text(), b"USAGE tspc solve/verify/tour/bench\n".as_slice());
+        assert_eq!(rt;
+            ended.text(),
+            b"USAGE tspc solve/verify/tour/bench\n".as_slice()
+        );
         assert_eq!(rt; ended.desk.proof(), b"".as_slice());
     }
     Ok(())
@@ -214,7 +221,11 @@ fn a_failing_write_leaves_a_front(rt: HostRuntime) -> Result<(), Fail> {
         alloc,
         "tspc solve a b c",
         SQUARE,
-        &Faults { most_write: 1, bad_writes: &[5], ..NONE },
+        &Faults {
+            most_write: 1,
+            bad_writes: &[5],
+            ..NONE
+        },
     )?;
     assert_eq!(rt; ended.status, Status::WriteFault);
     assert_eq!(rt; ended.desk.proof(), b"TSPC".as_slice());
@@ -226,7 +237,11 @@ fn a_failing_write_leaves_a_front(rt: HostRuntime) -> Result<(), Fail> {
             alloc,
             "tspc solve a b c",
             SQUARE,
-            &Faults { most_write: 1, bad_writes: &bad, ..NONE },
+            &Faults {
+                most_write: 1,
+                bad_writes: &bad,
+                ..NONE
+            },
         )?;
         assert_eq!(rt; cut.status, Status::WriteFault);
         assert_eq!(rt; cut.desk.proof().len(), proof.min(k - 1));
@@ -234,7 +249,15 @@ fn a_failing_write_leaves_a_front(rt: HostRuntime) -> Result<(), Fail> {
         assert!(rt; whole.desk.proof().starts_with(cut.desk.proof()));
         assert!(rt; whole.text().starts_with(cut.text()));
     }
-    let unbound = run_with(alloc, "tspc solve a b c", SQUARE, &Faults { bad_binds: &[2], ..NONE })?;
+    let unbound = run_with(
+        alloc,
+        "tspc solve a b c",
+        SQUARE,
+        &Faults {
+            bad_binds: &[2],
+            ..NONE
+        },
+    )?;
     assert_eq!(rt; unbound.status, Status::WriteFault);
     assert_eq!(rt; unbound.desk.proof(), b"".as_slice());
     Ok(())
@@ -245,13 +268,37 @@ fn a_failing_read_is_told(rt: HostRuntime) -> Result<(), Fail> {
     let alloc = rt.alloc();
     for k in 1..3 {
         let bad = [k];
-        let ended = run_with(alloc, "tspc solve a b c", SQUARE, &Faults { bad_reads: &bad, ..NONE })?;
+        let ended = run_with(
+            alloc,
+            "tspc solve a b c",
+            SQUARE,
+            &Faults {
+                bad_reads: &bad,
+                ..NONE
+            },
+        )?;
         assert_eq!(rt; ended.status, Status::ReadFault);
         assert_eq!(rt; ended.text(), b"".as_slice());
     }
-    let unbound = run_with(alloc, "tspc solve a b c", SQUARE, &Faults { bad_binds: &[1], ..NONE })?;
+    let unbound = run_with(
+        alloc,
+        "tspc solve a b c",
+        SQUARE,
+        &Faults {
+            bad_binds: &[1],
+            ..NONE
+        },
+    )?;
     assert_eq!(rt; unbound.status, Status::ReadFault);
-    let past = run_with(alloc, "tspc solve a b c", SQUARE, &Faults { bad_reads: &[3], ..NONE })?;
+    let past = run_with(
+        alloc,
+        "tspc solve a b c",
+        SQUARE,
+        &Faults {
+            bad_reads: &[3],
+            ..NONE
+        },
+    )?;
     assert_eq!(rt; past.status, Status::Optimal);
     Ok(())
 }
@@ -259,17 +306,45 @@ fn a_failing_read_is_told(rt: HostRuntime) -> Result<(), Fail> {
 #[test]
 fn failing_slots_matter_where_they_are_used(rt: HostRuntime) -> Result<(), Fail> {
     let alloc = rt.alloc();
-    let bad = [(SlotCall::Write, 1), (SlotCall::Write, 2), (SlotCall::Write, 3)];
-    let unused = run_with(alloc, "tspc solve a b c", SQUARE, &Faults { bad_slots: &bad, ..NONE })?;
+    let bad = [
+        (SlotCall::Write, 1),
+        (SlotCall::Write, 2),
+        (SlotCall::Write, 3),
+    ];
+    let unused = run_with(
+        alloc,
+        "tspc solve a b c",
+        SQUARE,
+        &Faults {
+            bad_slots: &bad,
+            ..NONE
+        },
+    )?;
     assert_eq!(rt; unused.status, Status::Optimal);
     assert_eq!(rt; unused.text(), b"OPTIMAL 40\nTOUR 1 2 3 4\n".as_slice());
-    let used = run_with(alloc, "tspc solve a b c --budget 0", SQUARE, &Faults { bad_slots: &bad, ..NONE })?;
+    let used = run_with(
+        alloc,
+        "tspc solve a b c --budget 0",
+        SQUARE,
+        &Faults {
+            bad_slots: &bad,
+            ..NONE
+        },
+    )?;
     assert_eq!(rt; used.status, Status::StoreFault);
     assert_eq!(rt; used.text(), b"".as_slice());
     let whole = solved(alloc, "tspc solve a b c --budget 0", SQUARE)?;
     for k in 0..whole.slots.entries().len() {
         let one = [(SlotCall::Any, k as u64 + 1)];
-        let ended = run_with(alloc, "tspc solve a b c --budget 0", SQUARE, &Faults { bad_slots: &one, ..NONE })?;
+        let ended = run_with(
+            alloc,
+            "tspc solve a b c --budget 0",
+            SQUARE,
+            &Faults {
+                bad_slots: &one,
+                ..NONE
+            },
+        )?;
         assert_eq!(rt; ended.status, Status::StoreFault);
         assert_eq!(rt; ended.text(), b"".as_slice());
     }

@@ -10,11 +10,7 @@ use tspinst::Refusal;
 pub(crate) const USAGE: &str = "USAGE tspc solve/verify/tour/bench\n";
 
 /// A shortest tour and its length.
-pub(crate) fn optimal_text(
-    alloc: Global,
-    length: u64,
-    tour: &[u32],
-) -> Result<Vec<u8>, AllocError>
+pub(crate) fn optimal_text(alloc: Global, length: u64, tour: &[u32]) -> Result<Vec<u8>, AllocError>
     ensures { IfOk result (λ t. t.items ≡ texts.optimal_text length tour.now) }
 {
     let mut text = format!(in alloc; "OPTIMAL {length}\nTOUR")?;

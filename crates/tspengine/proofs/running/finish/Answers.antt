@@ -25,7 +25,7 @@ returns-in-Err-write_all-clause-desk g c = λ i is.
     let loads = on_ok c.save.result (sym c.is_err.ensures.value ∙ c.if-is_err.false) c.save.ensures.loads in
     let stopped : IsStopped i c.args.solve.now.budget c.in-Stopped.body.items c.in-Stopped.printed.items = subst (IsOutcome i c.args.solve.now.budget) c.in-Stopped.is is in
     let now = subst (λ (x : List ℕ). IsStopped i c.args.solve.now.budget body x) (sym c.deref-in-Stopped-2.ensures.value)
-      (subst (λ (x : List ℕ). IsStopped i c.args.solve.now.budget x c.in-Stopped.printed.items) (sym c.deref-in-Stopped.ensures.value) stopped) in
+    (subst (λ (x : List ℕ). IsStopped i c.args.solve.now.budget x c.in-Stopped.printed.items) (sym c.deref-in-Stopped.ensures.value) stopped) in
     both_to (PublishesFronts names.proof [] printed) _
     (λ t u f. inr (record { body = body; printed = printed; stopped = now; holds = loads; fronts = f }))
     _ _ (text_alone_torn names.proof printed k _ _ front)

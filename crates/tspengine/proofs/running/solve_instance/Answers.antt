@@ -15,7 +15,7 @@ returns-in-Refused-clause-desk g c =
     let a = g.D.Desk.told c.args.desk.now in
     let b = g.D.Desk.told c.read_instance.new.desk in
     let refuses = subst (λ (w : List ℕ). BothTell (RefusesInstance w r) a b) c.deref.ensures
-      (subst (λ (x : Reading). BothTell (IsReadingOf c.deref.result.now x) a b) c.in-Refused.is c.in_ok-refusal.ensures.reading) in
+    (subst (λ (x : Reading). BothTell (IsReadingOf c.deref.result.now x) a b) c.in-Refused.is c.in_ok-refusal.ensures.reading) in
     refused_ends names (g.L.Slots.told c.args.slots.now) r (either c.refuse.result) a b (g.D.Desk.told c.refuse.new.desk) refuses
     c.refuse.ensures.status c.refuse.ensures.refused c.refuse.ensures.torn c.refuse.ensures.silent
 
@@ -26,7 +26,7 @@ returns-then-is_err-clause-desk g c =
     let a = g.D.Desk.told c.args.desk.now in
     let b = g.D.Desk.told c.read_instance.new.desk in
     let reads = subst (λ (w : List ℕ). BothTell (ReadsInstance w i) a b) c.deref.ensures
-      (subst (λ (x : Reading). BothTell (IsReadingOf c.deref.result.now x) a b) c.in-Instance.is c.in_ok-refusal.ensures.reading) in
+    (subst (λ (x : Reading). BothTell (IsReadingOf c.deref.result.now x) a b) c.in-Instance.is c.in_ok-refusal.ensures.reading) in
     read_silent names (g.L.Slots.told c.bind.new.self) i status.StoreFault (inl refl) a b reads
 
 pub returns-clause-desk : goal.returns-clause-desk
@@ -36,7 +36,7 @@ returns-clause-desk g c =
     let a = g.D.Desk.told c.args.desk.now in
     let b = g.D.Desk.told c.read_instance.new.desk in
     let reads = subst (λ (w : List ℕ). BothTell (ReadsInstance w i) a b) c.deref.ensures
-      (subst (λ (x : Reading). BothTell (IsReadingOf c.deref.result.now x) a b) c.in-Instance.is c.in_ok-refusal.ensures.reading) in
+    (subst (λ (x : Reading). BothTell (IsReadingOf c.deref.result.now x) a b) c.in-Instance.is c.in_ok-refusal.ensures.reading) in
     read_silent names (g.L.Slots.told c.bind.new.self) i status.NoMemory (inr refl) a b reads
 
 pub returns-in-Ok-clause-desk : goal.returns-in-Ok-clause-desk
@@ -46,5 +46,5 @@ returns-in-Ok-clause-desk g c =
     let a = g.D.Desk.told c.args.desk.now in
     let b = g.D.Desk.told c.read_instance.new.desk in
     let reads = subst (λ (w : List ℕ). BothTell (ReadsInstance w i) a b) c.deref.ensures
-      (subst (λ (x : Reading). BothTell (IsReadingOf c.deref.result.now x) a b) c.in-Instance.is c.in_ok-refusal.ensures.reading) in
+    (subst (λ (x : Reading). BothTell (IsReadingOf c.deref.result.now x) a b) c.in-Instance.is c.in_ok-refusal.ensures.reading) in
     finish_ends names (g.L.Slots.told c.finish.new.slots) i c.finish.result a b (g.D.Desk.told c.finish.new.desk) reads (c.finish.ensures.desk i c.in-Ok.ensures)
