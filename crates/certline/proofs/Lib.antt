@@ -1,0 +1,5 @@
+pub mod Numbers
+pub mod Lines
+pub mod Runs
+pub mod Signed
+pub mod Forms

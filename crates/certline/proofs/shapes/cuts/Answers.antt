@@ -1,0 +1,14 @@
+use Rattle.std.proofs.Common.{◌^◌, [], ◌∷◌, codes, refl, arith}
+use Rattle.std.proofs.lemmas.Bool.{lt-ltb, ltb-true}
+use Rattle.certdef.specs.Items.{cuts_line}
+use Rattle.certline.proofs.Lines.{numbers_read, no_cuts}
+use Rattle.certline.proofs.shapes.cuts.Goals as goal
+
+pub returns-in-Some : goal.returns-in-Some
+returns-in-Some c =
+    let x = c.in-Some.many in
+    let small = c.in-Some.ensures.small in
+    numbers_read c.args.n (cuts_line x) (codes "CUTS") c.args.tail.now (x ∷ []) (omega arith) refl c.in-Some.ensures.some (lt-ltb x (2 ^ 32) (omega arith)) c.requires.short
+
+pub returns-in-None : goal.returns-in-None
+returns-in-None c = no_cuts c.args.n c.args.tail.now c.requires.tail (λ m b e. c.in-None.ensures.none m (let l = ltb-true m (2 ^ 32) b in omega arith) e)

@@ -1,0 +1,168 @@
+-- the tests decide the definitions
+use Rattle.std.proofs.Common.{◌≡◌, ℕ, ◌+◌, ◌%◌, ◌<◌, ◌≤◌, Bool, true, false, not, ◌&&◌, List, [], ◌∷◌, length, ℤ, refl, arith}
+use Rattle.std.specs.Prelude.{nat_le, nat_lt, ◌==◌, ◌<ℤ◌}
+use Rattle.std.specs.Int.Signed.{lt_z}
+use Rattle.std.specs.List.{AllByRecursion}
+use Rattle.std.proofs.lemmas.Int.{ints}
+use Rattle.std.proofs.lemmas.Bool.{and_parts, and_from, eq-eqb, eqb-true, leb-true, le-leb, ltb-true, lt-ltb, not-true}
+use Rattle.tspdef.specs.Sets.{has, RisesFrom, IsProper, meet, meets_any, AreDisjoint, leaves}
+use Rattle.tspdef.specs.Tours.{AreDistinct, IsTour, last_city, IsCanonical}
+use Rattle.tspdef.specs.Cuts.{Cut, subtour, comb, IsTooth, IsComb, IsCut}
+use Rattle.tspdef.specs.Paths.{Condition, absent, present, two, four, IsClique}
+use Rattle.std.specs.Prelude.{Option, Some, None}
+use Rattle.certdef.specs.Items.{each_below}
+use Rattle.certdef.specs.Accepted.{from_zero, is_clique}
+use Rattle.certdef.specs.Tests.{each_positive, are_distinct, is_tour, is_canonical, is_tour_from_one, rises_below, is_proper, are_disjoint, are_teeth, is_cut}
+
+not_true : (b : Bool) → b ≡ false → not b ≡ true
+not_true true e = cc
+not_true false e = refl
+
+-- ---- tours
+
+below_yes : (n : ℕ) (cs : List ℕ) → each_below n cs ≡ true → AllByRecursion (λ c. c < n) cs
+below_yes n [] e = tt
+below_yes n (c ∷ cs) e = let p = and_parts (nat_lt c n) (each_below n cs) e in (ltb-true c n p.0, below_yes n cs p.1)
+
+yes_below : (n : ℕ) (cs : List ℕ) → AllByRecursion (λ c. c < n) cs → each_below n cs ≡ true
+yes_below n [] h = refl
+yes_below n (c ∷ cs) h = and_from (nat_lt c n) (each_below n cs) (lt-ltb c n h.0) (yes_below n cs h.1)
+
+distinct_yes : (cs : List ℕ) → are_distinct cs ≡ true → AreDistinct cs
+distinct_yes [] e = tt
+distinct_yes (c ∷ cs) e = let p = and_parts (not (has cs c)) (are_distinct cs) e in (not-true (has cs c) p.0, distinct_yes cs p.1)
+
+yes_distinct : (cs : List ℕ) → AreDistinct cs → are_distinct cs ≡ true
+yes_distinct [] h = refl
+yes_distinct (c ∷ cs) h = and_from (not (has cs c)) (are_distinct cs) (not_true (has cs c) h.0) (yes_distinct cs h.1)
+
+pub tour_yes : (n : ℕ) (cs : List ℕ) → is_tour n cs ≡ true → IsTour n cs
+tour_yes n cs e =
+    let p = and_parts (length cs == n) (each_below n cs && are_distinct cs) e in
+    let q = and_parts (each_below n cs) (are_distinct cs) p.1 in
+    record { all = eqb-true (length cs) n p.0; below = below_yes n cs q.0; distinct = distinct_yes cs q.1 }
+
+pub yes_tour : (n : ℕ) (cs : List ℕ) → IsTour n cs → is_tour n cs ≡ true
+yes_tour n cs h = and_from (length cs == n) (each_below n cs && are_distinct cs) (eq-eqb (length cs) n h.all) (and_from (each_below n cs) (are_distinct cs) (yes_below n cs h.below) (yes_distinct cs h.distinct))
+
+pub canonical_yes : (cs : List ℕ) → is_canonical cs ≡ true → IsCanonical cs
+canonical_yes [] e = cc
+canonical_yes (a ∷ []) e = cc
+canonical_yes (a ∷ b ∷ cs) e = let p = and_parts (a == 0) (nat_lt b (last_city b cs)) e in (eqb-true a 0 p.0, ltb-true b (last_city b cs) p.1)
+
+pub yes_canonical : (cs : List ℕ) → IsCanonical cs → is_canonical cs ≡ true
+yes_canonical [] h = absurd h
+yes_canonical (a ∷ []) h = absurd h
+yes_canonical (a ∷ b ∷ cs) h = and_from (a == 0) (nat_lt b (last_city b cs)) (eq-eqb a 0 h.0) (lt-ltb b (last_city b cs) h.1)
+
+pub positive_yes : (cs : List ℕ) → each_positive cs ≡ true → AllByRecursion (λ c. 1 ≤ c) cs
+positive_yes [] e = tt
+positive_yes (c ∷ cs) e = let p = and_parts (nat_lt 0 c) (each_positive cs) e in (ltb-true 0 c p.0, positive_yes cs p.1)
+
+pub yes_positive : (cs : List ℕ) → AllByRecursion (λ c. 1 ≤ c) cs → each_positive cs ≡ true
+yes_positive [] h = refl
+yes_positive (c ∷ cs) h = and_from (nat_lt 0 c) (each_positive cs) (lt-ltb 0 c h.0) (yes_positive cs h.1)
+
+-- a canonical tour of n cities, of cities from 1
+pub record IsTourFromOne (n : ℕ) (cs : List ℕ) : Type 0 where
+  pub from_one : AllByRecursion (λ c. 1 ≤ c) cs
+  pub is_tour : IsTour n (from_zero cs)
+  pub canonical : IsCanonical (from_zero cs)
+
+pub tour_from_one_yes : (n : ℕ) (cs : List ℕ) → is_tour_from_one n cs ≡ true → IsTourFromOne n cs
+tour_from_one_yes n cs e =
+    let p = and_parts (each_positive cs) (is_tour n (from_zero cs) && is_canonical (from_zero cs)) e in
+    let q = and_parts (is_tour n (from_zero cs)) (is_canonical (from_zero cs)) p.1 in
+    record { from_one = positive_yes cs p.0; is_tour = tour_yes n (from_zero cs) q.0; canonical = canonical_yes (from_zero cs) q.1 }
+
+pub yes_tour_from_one : (n : ℕ) (cs : List ℕ) → AllByRecursion (λ c. 1 ≤ c) cs → IsTour n (from_zero cs) → IsCanonical (from_zero cs) → is_tour_from_one n cs ≡ true
+yes_tour_from_one n cs p t c = and_from (each_positive cs) (is_tour n (from_zero cs) && is_canonical (from_zero cs)) (yes_positive cs p)
+    (and_from (is_tour n (from_zero cs)) (is_canonical (from_zero cs)) (yes_tour n (from_zero cs) t) (yes_canonical (from_zero cs) c))
+
+-- ---- sets
+
+rises_yes : (n from : ℕ) (cs : List ℕ) → rises_below n from cs ≡ true → RisesFrom n from cs
+rises_yes n from [] e = tt
+rises_yes n from (c ∷ cs) e =
+    let p = and_parts (nat_le from c && nat_lt c n) (rises_below n (c + 1) cs) e in
+    let q = and_parts (nat_le from c) (nat_lt c n) p.0 in
+    ((leb-true from c q.0, ltb-true c n q.1), rises_yes n (c + 1) cs p.1)
+
+yes_rises : (n from : ℕ) (cs : List ℕ) → RisesFrom n from cs → rises_below n from cs ≡ true
+yes_rises n from [] h = refl
+yes_rises n from (c ∷ cs) h = and_from (nat_le from c && nat_lt c n) (rises_below n (c + 1) cs) (and_from (nat_le from c) (nat_lt c n) (le-leb from c h.0.0) (lt-ltb c n h.0.1)) (yes_rises n (c + 1) cs h.1)
+
+pub proper_yes : (n : ℕ) (s : List ℕ) → is_proper n s ≡ true → IsProper n s
+proper_yes n s e =
+    let p = and_parts (rises_below n 0 s) (nat_lt 0 (length s) && nat_lt (length s) n) e in
+    let q = and_parts (nat_lt 0 (length s)) (nat_lt (length s) n) p.1 in
+    record { set = rises_yes n 0 s p.0; some = ltb-true 0 (length s) q.0; not_all = ltb-true (length s) n q.1 }
+
+pub yes_proper : (n : ℕ) (s : List ℕ) → IsProper n s → is_proper n s ≡ true
+yes_proper n s h = and_from (rises_below n 0 s) (nat_lt 0 (length s) && nat_lt (length s) n) (yes_rises n 0 s h.set) (and_from (nat_lt 0 (length s)) (nat_lt (length s) n) (lt-ltb 0 (length s) h.some) (lt-ltb (length s) n h.not_all))
+
+-- ---- cuts
+
+disjoint_yes : (ts : List (List ℕ)) → are_disjoint ts ≡ true → AreDisjoint ts
+disjoint_yes [] e = tt
+disjoint_yes (t ∷ ts) e = let p = and_parts (not (meets_any t ts)) (are_disjoint ts) e in (not-true (meets_any t ts) p.0, disjoint_yes ts p.1)
+
+yes_disjoint : (ts : List (List ℕ)) → AreDisjoint ts → are_disjoint ts ≡ true
+yes_disjoint [] h = refl
+yes_disjoint (t ∷ ts) h = and_from (not (meets_any t ts)) (are_disjoint ts) (not_true (meets_any t ts) h.0) (yes_disjoint ts h.1)
+
+teeth_yes : (n : ℕ) (h : List ℕ) (ts : List (List ℕ)) → are_teeth n h ts ≡ true → AllByRecursion (IsTooth n h) ts
+teeth_yes n h [] e = tt
+teeth_yes n h (t ∷ ts) e =
+    let p = and_parts (rises_below n 0 t && (meet t h && leaves t h)) (are_teeth n h ts) e in
+    let q = and_parts (rises_below n 0 t) (meet t h && leaves t h) p.0 in
+    let r = and_parts (meet t h) (leaves t h) q.1 in
+    (record { set = rises_yes n 0 t q.0; inside = r.0; outside = r.1 }, teeth_yes n h ts p.1)
+
+yes_teeth : (n : ℕ) (h : List ℕ) (ts : List (List ℕ)) → AllByRecursion (IsTooth n h) ts → are_teeth n h ts ≡ true
+yes_teeth n h [] k = refl
+yes_teeth n h (t ∷ ts) k =
+    let tooth = k.0 in
+    and_from (rises_below n 0 t && (meet t h && leaves t h)) (are_teeth n h ts)
+    (and_from (rises_below n 0 t) (meet t h && leaves t h) (yes_rises n 0 t tooth.set) (and_from (meet t h) (leaves t h) tooth.inside tooth.outside)) (yes_teeth n h ts k.1)
+
+comb_yes : (n : ℕ) (h : List ℕ) (ts : List (List ℕ)) → is_proper n h && ((length ts % 2 == 1) && (nat_le 3 (length ts) && (are_teeth n h ts && are_disjoint ts))) ≡ true → IsComb n h ts
+comb_yes n h ts e =
+    let p = and_parts (is_proper n h) ((length ts % 2 == 1) && (nat_le 3 (length ts) && (are_teeth n h ts && are_disjoint ts))) e in
+    let q = and_parts (length ts % 2 == 1) (nat_le 3 (length ts) && (are_teeth n h ts && are_disjoint ts)) p.1 in
+    let r = and_parts (nat_le 3 (length ts)) (are_teeth n h ts && are_disjoint ts) q.1 in
+    let s = and_parts (are_teeth n h ts) (are_disjoint ts) r.1 in
+    record { proper = proper_yes n h p.0; odd = eqb-true (length ts % 2) 1 q.0; many = leb-true 3 (length ts) r.0; each_tooth = teeth_yes n h ts s.0; disjoint = disjoint_yes ts s.1 }
+
+yes_comb : (n : ℕ) (h : List ℕ) (ts : List (List ℕ)) → IsComb n h ts → is_proper n h && ((length ts % 2 == 1) && (nat_le 3 (length ts) && (are_teeth n h ts && are_disjoint ts))) ≡ true
+yes_comb n h ts k =
+    and_from (is_proper n h) ((length ts % 2 == 1) && (nat_le 3 (length ts) && (are_teeth n h ts && are_disjoint ts))) (yes_proper n h k.proper)
+    (and_from (length ts % 2 == 1) (nat_le 3 (length ts) && (are_teeth n h ts && are_disjoint ts)) (eq-eqb (length ts % 2) 1 k.odd)
+    (and_from (nat_le 3 (length ts)) (are_teeth n h ts && are_disjoint ts) (le-leb 3 (length ts) k.many)
+    (and_from (are_teeth n h ts) (are_disjoint ts) (yes_teeth n h ts k.each_tooth) (yes_disjoint ts k.disjoint))))
+
+pub cut_yes : (n : ℕ) (c : Cut) → is_cut n c ≡ true → IsCut n c
+cut_yes n (subtour m s) e = let p = and_parts (m == n) (is_proper n s) e in (eqb-true m n p.0, proper_yes n s p.1)
+cut_yes n (comb m h ts) e =
+    let p = and_parts (m == n) (is_proper n h && ((length ts % 2 == 1) && (nat_le 3 (length ts) && (are_teeth n h ts && are_disjoint ts)))) e in
+    (eqb-true m n p.0, comb_yes n h ts p.1)
+
+pub yes_cut : (n : ℕ) (c : Cut) → IsCut n c → is_cut n c ≡ true
+yes_cut n (subtour m s) k = and_from (m == n) (is_proper n s) (eq-eqb m n k.0) (yes_proper n s k.1)
+yes_cut n (comb m h ts) k =
+    and_from (m == n) (is_proper n h && ((length ts % 2 == 1) && (nat_le 3 (length ts) && (are_teeth n h ts && are_disjoint ts)))) (eq-eqb m n k.0) (yes_comb n h ts k.1)
+
+-- ---- conditions and bounds
+
+pub clique_yes : (c : Option Condition) → is_clique c ≡ true → IsClique c
+clique_yes None e = cc
+clique_yes (Some (absent u v)) e = cc
+clique_yes (Some (present u v)) e = cc
+clique_yes (Some (two s)) e = tt
+clique_yes (Some (four s)) e = tt
+
+pub below_z : (a b : ℤ) → lt_z a b ≡ true → a <ℤ b
+below_z a b e = grind (arith, ints)
+
+pub z_below : (a b : ℤ) → a <ℤ b → lt_z a b ≡ true
+z_below a b h = grind (arith, ints)

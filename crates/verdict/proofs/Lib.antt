@@ -1,0 +1,12 @@
+pub mod Left
+pub mod CutSteps
+pub mod DualSteps
+pub mod TreeSteps
+pub mod HeadSteps
+pub mod Steps
+pub mod Lines
+pub mod Runs
+pub mod Decisions
+pub mod Values
+pub mod Bytes
+pub mod Forms

@@ -1,0 +1,25 @@
+//! The laws of proof texts: lines are read as what they are spelled from, the verdict is yes exactly on accepted texts, bytes may
+//! come in pieces, and a reader of the form alone gives exactly the items of a value. There is no program code in this crate.
+#![tactic(auto)]
+
+ghost use Rattle.certdef.specs.Laws.{LinesAreExact, YesIsAcceptedText, ReadsInPieces, ReadIsReadable};
+
+/// Bytes are the line of an item within its bounds exactly where they are read as that item.
+pub fn lines_are_exact()
+    ensures { LinesAreExact }
+{}
+
+/// The verdict on bytes is yes with a length exactly where they are a text that is accepted with it.
+pub fn yes_is_accepted_text()
+    ensures { YesIsAcceptedText }
+{}
+
+/// Bytes may be read in pieces.
+pub fn reads_in_pieces()
+    ensures { ReadsInPieces }
+{}
+
+/// A reader of the form alone is at the end exactly after the lines of a value of the grammar, and gives its items.
+pub fn read_is_readable()
+    ensures { ReadIsReadable }
+{}
