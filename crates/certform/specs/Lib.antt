@@ -4,3 +4,4 @@ pub mod Told
 pub mod Lines
 pub mod Walks
 pub mod Listing
+pub mod Reading

@@ -1,4 +1,4 @@
-//! Why a proof was not written.
+//! Why a proof was not written, and why a line was not read.
 ghost use Rattle.std.specs.Prelude.{◌≡◌};
 
 use ports::Failed;
@@ -43,5 +43,35 @@ impl From<Failed> for WriteError {
 
     fn from(_: Failed) -> Self {
         WriteError::Failed
+    }
+}
+
+/// Why a line was not read.
+#[derive(Clone, Copy, Debug, PartialEq, Eq)]
+pub enum LineError {
+    /// It is no line of the form, or does not stand at its place.
+    NotALine,
+    /// There is no memory, or more than 2^64 - 1 trees are to come.
+    NoMemory,
+}
+
+impl fmt::Display for LineError {
+    fn fmt<W: fmt::Write>(&self, f: &mut fmt::Formatter<W>) -> fmt::Result {
+        match self {
+            LineError::NotALine => write!(f, "not a line that may come here"),
+            LineError::NoMemory => write!(f, "out of memory"),
+        }
+    }
+}
+
+impl Error for LineError {}
+
+impl From<AllocError> for LineError {
+    ghost use Rattle.certform.specs.declared.error.LineError.TheVariants.{NoMemory};
+
+    ghost from_gives = { λ _ e. e ≡ NoMemory };
+
+    fn from(_: AllocError) -> Self {
+        LineError::NoMemory
     }
 }

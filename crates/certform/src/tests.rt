@@ -1,7 +1,7 @@
 //! Worked texts.
 ghost use Rattle.std.specs.Prelude.{◌≡◌, ◌≤◌, length, IfOk};
 
-use crate::{WriteError, body, write};
+use crate::{Item, LineError, Reader, WriteError, body, write};
 use branchx::Branch;
 use cutform::Cut;
 use cyc::{CitySet, Tour};
@@ -230,5 +230,64 @@ fn a_failing_write_leaves_a_front(rt: HostRuntime) -> Result<(), Fail> {
     );
     assert!(rt; bad.proof() == &SQUARE[..32]);
     assert_eq!(rt; bad.write_faults(), 1);
+    Ok(())
+}
+
+#[test]
+fn lines_stand_at_their_places(rt: HostRuntime) -> Result<(), Fail> {
+    let alloc = rt.alloc();
+    let lines = [
+        b"TSPCERT 1".as_slice(),
+        b"N 6",
+        b"LENGTH 10",
+        b"TOUR 1 2 3 4 5 6",
+        b"CUTS 2",
+        b"C 3",
+        b"H 3 1 2 3",
+        b"T 2 1 4",
+        b"T 2 2 5",
+        b"T 2 3 6",
+        b"S 2 1 3",
+        b"K 2 1 2",
+        b"E 1 4",
+        b"L 2 2 1",
+        b"P 1 5",
+        b"P 3 -7",
+        b"Y 1 3",
+        b"Y 2 9",
+        b"Z 1 4",
+        b"O",
+        b"L 0 0 0",
+    ];
+    let mut reader = Reader::new(6);
+    for line in lines {
+        assert!(rt; !reader.ended());
+        // a title stands at its place once, and no line is longer than it may be
+        let item = reader.line(alloc, line)?;
+        assert_eq!(rt;
+            reader.line(alloc, b"TSPCERT 1").err(),
+            Some(LineError::NotALine)
+        );
+        if line == b"P 3 -7".as_slice() {
+            assert!(rt; item == Item::City(3, -7));
+            assert_eq!(rt;
+                reader.line(alloc, b"P 6 1").err(),
+                Some(LineError::NotALine)
+            );
+        }
+        if line == b"Y 1 3".as_slice() {
+            assert!(rt; item == Item::CutDual(1, 3));
+            assert_eq!(rt;
+                reader.line(alloc, b"Y 1 9").err(),
+                Some(LineError::NotALine)
+            );
+            assert_eq!(rt;
+                reader.line(alloc, b"Y 3 9").err(),
+                Some(LineError::NotALine)
+            );
+        }
+    }
+    assert!(rt; reader.ended());
+    assert_eq!(rt; reader.line(alloc, b"O").err(), Some(LineError::NotALine));
     Ok(())
 }

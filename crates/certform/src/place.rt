@@ -1,0 +1,254 @@
+//! Which line must come, and what comes after it.
+ghost use Rattle.std.specs.Prelude.{◌≡◌, ◌+◌, ◌-◌, ◌<◌, suc, IfOk, IsErrOf};
+ghost use Rattle.certdef.specs.Forms.{at_trees, cuts_then, teeth_then, duals_then, form_dual, form_tree, form_cut, form_step};
+ghost use Rattle.certline.specs.Said.{said};
+ghost use Rattle.certform.specs.Reading.{form_of};
+
+use crate::error::LineError;
+use certline::Item;
+
+/// The lines of a leaf that are still to come, of each kind, and the least city, cut and depth that may come next.
+#[derive(Clone, Copy)]
+pub struct Left {
+    pub cities: u32,
+    pub cuts: u32,
+    pub conds: u32,
+    pub city: u64,
+    pub cut: u64,
+    pub depth: u64,
+}
+
+/// Which line must come: one of the head, a cut's, or one of so many trees.
+#[derive(Clone, Copy)]
+pub enum Place {
+    Title,
+    Size,
+    Length,
+    Tour,
+    Count,
+    /// A cut, so many after it, and so many before it.
+    Cut(u32, u64),
+    /// The same of a comb's handle, and how many teeth it has.
+    Handle(u32, u64, u32),
+    /// The same of a tooth, and how many teeth are after it.
+    Tooth(u32, u64, u32),
+    /// So many trees, and so many cuts are listed.
+    Trees(u64, u64),
+    /// Lines of a leaf, and then so many trees.
+    Duals(u64, u64, Left),
+}
+
+/// What comes after an item, where it stands at its place. There is no memory for a count past 2^64 - 1.
+pub fn after(place: Place, item: &Item) -> Result<Place, LineError>
+    ensures next { IfOk result (λ p. form_step (form_of place) (said item.now) ≡ Some (form_of p)) }
+    ensures refused { IsErrOf result LineError.NotALine → form_step (form_of place) (said item.now) ≡ None }
+{
+    match place {
+        Place::Title => match item {
+            Item::Cert => Ok(Place::Size),
+            _ => Err(LineError::NotALine),
+        },
+        Place::Size => match item {
+            Item::N(_) => Ok(Place::Length),
+            _ => Err(LineError::NotALine),
+        },
+        Place::Length => match item {
+            Item::Length(_) => Ok(Place::Tour),
+            _ => Err(LineError::NotALine),
+        },
+        Place::Tour => match item {
+            Item::Tour(_) => Ok(Place::Count),
+            _ => Err(LineError::NotALine),
+        },
+        Place::Count => match item {
+            Item::Cuts(many) => Ok(cuts_on(*many, 0)),
+            _ => Err(LineError::NotALine),
+        },
+        Place::Cut(more, listed) => after_cut(more, listed, item),
+        Place::Handle(more, listed, teeth) => match item {
+            Item::Handle(_) => teeth_on(more, listed, teeth),
+            _ => Err(LineError::NotALine),
+        },
+        Place::Tooth(more, listed, teeth) => match item {
+            Item::Tooth(_) => teeth_on(more, listed, teeth),
+            _ => Err(LineError::NotALine),
+        },
+        Place::Trees(0, _) => Err(LineError::NotALine),
+        Place::Trees(trees, listed) => after_tree(trees - 1, listed, item),
+        Place::Duals(trees, listed, left) => after_dual(trees, listed, left, item),
+    }
+}
+
+/// So many cuts are to come, and then the tree.
+fn cuts_on(more: u32, listed: u64) -> Place
+    ensures { form_of result ≡ cuts_then more listed }
+{
+    if more == 0 {
+        Place::Trees(1, listed)
+    } else {
+        Place::Cut(more - 1, listed)
+    }
+}
+
+/// One more cut is listed.
+fn cut_listed(more: u32, listed: u64) -> Result<Place, LineError>
+    ensures next { IfOk result (λ p. form_of p ≡ cuts_then more (listed + 1)) }
+    ensures refused { ¬ IsErrOf result LineError.NotALine }
+{
+    match listed.checked_add(1) {
+        Some(listed) => Ok(cuts_on(more, listed)),
+        None => Err(LineError::NoMemory),
+    }
+}
+
+/// So many teeth are to come, and then other cuts.
+fn teeth_on(more: u32, listed: u64, teeth: u32) -> Result<Place, LineError>
+    ensures next { IfOk result (λ p. form_of p ≡ teeth_then more listed teeth) }
+    ensures refused { ¬ IsErrOf result LineError.NotALine }
+{
+    if teeth == 0 {
+        cut_listed(more, listed)
+    } else {
+        Ok(Place::Tooth(more, listed, teeth - 1))
+    }
+}
+
+/// So many lines of a leaf are to come, and then trees.
+fn duals_on(trees: u64, listed: u64, left: Left) -> Place
+    ensures { form_of result ≡ duals_then trees listed left.cities left.cuts left.conds left.city left.cut left.depth }
+{
+    if left.cities != 0 || left.cuts != 0 || left.conds != 0 {
+        Place::Duals(trees, listed, left)
+    } else {
+        Place::Trees(trees, listed)
+    }
+}
+
+fn after_cut(more: u32, listed: u64, item: &Item) -> Result<Place, LineError>
+    ensures next { IfOk result (λ p. form_cut more listed (said item.now) ≡ Some (form_of p)) }
+    ensures refused { IsErrOf result LineError.NotALine → form_cut more listed (said item.now) ≡ None }
+{
+    match item {
+        Item::Subtour(_) => cut_listed(more, listed),
+        Item::Comb(teeth) => Ok(Place::Handle(more, listed, *teeth)),
+        _ => Err(LineError::NotALine),
+    }
+}
+
+/// Two trees in place of one, before so many others.
+fn split_on(trees: u64, listed: u64) -> Result<Place, LineError>
+    ensures next { IfOk result (λ p. form_of p ≡ at_trees (suc (suc trees)) listed) }
+    ensures refused { ¬ IsErrOf result LineError.NotALine }
+{
+    match trees.checked_add(2) {
+        Some(trees) => Ok(Place::Trees(trees, listed)),
+        None => Err(LineError::NoMemory),
+    }
+}
+
+fn after_tree(trees: u64, listed: u64, item: &Item) -> Result<Place, LineError>
+    ensures next { IfOk result (λ p. form_tree trees listed (said item.now) ≡ Some (form_of p)) }
+    ensures refused { IsErrOf result LineError.NotALine → form_tree trees listed (said item.now) ≡ None }
+{
+    match item {
+        Item::Edge(_, _) | Item::Clique(_) => split_on(trees, listed),
+        Item::Leaf(cities, cuts, conds) => {
+            let left = Left {
+                cities: *cities,
+                cuts: *cuts,
+                conds: *conds,
+                city: 1,
+                cut: 1,
+                depth: 1,
+            };
+            Ok(duals_on(trees, listed, left))
+        }
+        Item::Open => Ok(Place::Trees(trees, listed)),
+        _ => Err(LineError::NotALine),
+    }
+}
+
+fn after_dual(trees: u64, listed: u64, left: Left, item: &Item) -> Result<Place, LineError>
+    ensures next { IfOk result (λ p. form_dual trees listed left.cities left.cuts left.conds left.city left.cut left.depth (said item.now) ≡ Some (form_of p)) }
+    ensures refused { IsErrOf result LineError.NotALine
+        → form_dual trees listed left.cities left.cuts left.conds left.city left.cut left.depth (said item.now) ≡ None }
+{
+    if left.cities != 0 {
+        after_city(trees, listed, left, item)
+    } else if left.cuts != 0 {
+        after_cut_dual(trees, listed, left, item)
+    } else if left.conds != 0 {
+        after_condition(trees, listed, left, item)
+    } else {
+        Err(LineError::NotALine)
+    }
+}
+
+fn after_city(trees: u64, listed: u64, left: Left, item: &Item) -> Result<Place, LineError>
+    requires { 0 < left.cities }
+    ensures next { IfOk result (λ p. form_dual trees listed (suc (left.cities - 1)) left.cuts left.conds left.city left.cut left.depth (said item.now)
+        ≡ Some (form_of p)) }
+    ensures refused { IsErrOf result LineError.NotALine
+        → form_dual trees listed (suc (left.cities - 1)) left.cuts left.conds left.city left.cut left.depth (said item.now) ≡ None }
+{
+    let Item::City(city, _) = item else {
+        return Err(LineError::NotALine);
+    };
+    let city = u64::from(*city);
+    if city < left.city {
+        return Err(LineError::NotALine);
+    }
+    let left = Left {
+        cities: left.cities - 1,
+        city: city + 1,
+        ..left
+    };
+    Ok(duals_on(trees, listed, left))
+}
+
+fn after_cut_dual(trees: u64, listed: u64, left: Left, item: &Item) -> Result<Place, LineError>
+    requires { 0 < left.cuts }
+    ensures next { IfOk result (λ p. form_dual trees listed 0 (suc (left.cuts - 1)) left.conds left.city left.cut left.depth (said item.now)
+        ≡ Some (form_of p)) }
+    ensures refused { IsErrOf result LineError.NotALine
+        → form_dual trees listed 0 (suc (left.cuts - 1)) left.conds left.city left.cut left.depth (said item.now) ≡ None }
+{
+    let Item::CutDual(cut, _) = item else {
+        return Err(LineError::NotALine);
+    };
+    let cut = u64::from(*cut);
+    if cut < left.cut || cut > listed {
+        return Err(LineError::NotALine);
+    }
+    let left = Left {
+        cities: 0,
+        cuts: left.cuts - 1,
+        cut: cut + 1,
+        ..left
+    };
+    Ok(duals_on(trees, listed, left))
+}
+
+fn after_condition(trees: u64, listed: u64, left: Left, item: &Item) -> Result<Place, LineError>
+    requires { 0 < left.conds }
+    ensures next { IfOk result (λ p. form_dual trees listed 0 0 (suc (left.conds - 1)) left.city left.cut left.depth (said item.now)
+        ≡ Some (form_of p)) }
+    ensures refused { IsErrOf result LineError.NotALine
+        → form_dual trees listed 0 0 (suc (left.conds - 1)) left.city left.cut left.depth (said item.now) ≡ None }
+{
+    let Item::CondDual(depth, _) = item else {
+        return Err(LineError::NotALine);
+    };
+    let depth = u64::from(*depth);
+    if depth < left.depth {
+        return Err(LineError::NotALine);
+    }
+    let left = Left {
+        cities: 0,
+        cuts: 0,
+        conds: left.conds - 1,
+        depth: depth + 1,
+        ..left
+    };
+    Ok(duals_on(trees, listed, left))
+}
