@@ -70,8 +70,8 @@ pub costs_set : (rows : List Row) (ys : List ℤ) (cols : List Column) (i : ℕ)
 costs_set rows ys [] i r y z d in_rows in_ys is is_d = refl
 costs_set rows ys (c ∷ cs) i r y z d in_rows in_ys is is_d =
     let here : reduced rows (set ys i z) c ≡ reduced rows ys c -ℤ d *ℤ pos (coef r c.u c.v) =
-        reduced_set rows ys i r y z c in_rows in_ys
-        ∙ ap (λ (q : Row). reduced rows ys c -ℤ change q z (get_or ys i y) *ℤ pos (coef q c.u c.v)) (sym is)
-        ∙ ap (λ (n : ℤ). reduced rows ys c -ℤ n *ℤ pos (coef r c.u c.v)) (sym is_d) in
+    reduced_set rows ys i r y z c in_rows in_ys
+    ∙ ap (λ (q : Row). reduced rows ys c -ℤ change q z (get_or ys i y) *ℤ pos (coef q c.u c.v)) (sym is)
+    ∙ ap (λ (n : ℤ). reduced rows ys c -ℤ n *ℤ pos (coef r c.u c.v)) (sym is_d) in
     ap (λ (n : ℤ). n ∷ map (λ c. reduced rows ys c -ℤ d *ℤ pos (coef r c.u c.v)) cs) (sym here)
     ∙ ap (λ (l : List ℤ). reduced rows (set ys i z) c ∷ l) (costs_set rows ys cs i r y z d in_rows in_ys is is_d)

@@ -49,8 +49,8 @@ reduced_more rows ys cols i r y all inside is =
     let in_ys : i < length ys = omega (arith, all, inside) in
     map_same _ _ cols (λ c.
     let p : price (take (i + 1) rows) (take (i + 1) ys) c.u c.v ≡ price (take i rows ++ r ∷ []) (take i ys ++ get_or ys i y ∷ []) c.u c.v =
-        ap (λ (l : List Row). price l (take (i + 1) ys) c.u c.v) (take_more rows i r inside ∙ ap (λ (q : Row). take i rows ++ q ∷ []) (sym is))
-        ∙ ap (λ (l : List ℤ). price (take i rows ++ r ∷ []) l c.u c.v) (take_more ys i y in_ys) in
+    ap (λ (l : List Row). price l (take (i + 1) ys) c.u c.v) (take_more rows i r inside ∙ ap (λ (q : Row). take i rows ++ q ∷ []) (sym is))
+    ∙ ap (λ (l : List ℤ). price (take i rows ++ r ∷ []) l c.u c.v) (take_more ys i y in_ys) in
     let q = price_push (take i rows) (take i ys) r (get_or ys i y) c.u c.v (omega (arith, length-take i rows, length-take i ys, all, inside, in_ys)) in
     omega (arith, ints, p, q))
 

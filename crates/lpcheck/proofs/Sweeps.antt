@@ -106,9 +106,9 @@ sweep_more rows cols first before after costs later any true at so_far duals cos
     }
 sweep_more rows cols first before after costs later any false at so_far duals costs_are better same rests =
     let kept : (no : any ≡ false) (j : ℕ) (none : Row) → j < at + 1 → RowRests rows cols before j (get_or rows j none) = λ no j none below. ⊎_elim
-        (λ (lower : j < at). so_far.rests no j none lower)
-        (λ (not_lower : at ≤ j). let here : j ≡ at = omega (arith, below, not_lower) in subst (λ (i : ℕ). RowRests rows cols before i (get_or rows i none)) (sym here) (rests refl none))
-        (cases_lt j at) in
+    (λ (lower : j < at). so_far.rests no j none lower)
+    (λ (not_lower : at ≤ j). let here : j ≡ at = omega (arith, below, not_lower) in subst (λ (i : ℕ). RowRests rows cols before i (get_or rows i none)) (sym here) (rests refl none))
+    (cases_lt j at) in
     let before_is = same refl in
     record {
       duals = duals;

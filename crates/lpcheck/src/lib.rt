@@ -21,4 +21,3 @@ pub use cells::{Cell, Cells, table_of};
 pub use column::Column;
 pub use reduced::reduced_costs;
 pub use row::{Row, Sense};
-

@@ -97,6 +97,8 @@ pub struct Engine {
     steps: Vec<i64>,
     touched: Vec<Touched>,
     duals: Vec<i64>,
+    // what a ray adds to each dual, in units
+    ray: Vec<i64>,
     // costs are shifted right so far
     shift: u32,
     seed: u64,
@@ -114,6 +116,7 @@ impl Engine {
             steps: Vec::new(alloc),
             touched: Vec::new(alloc),
             duals: Vec::new(alloc),
+            ray: Vec::new(alloc),
             shift: 0,
             seed: 11,
         }
@@ -150,9 +153,10 @@ impl Engine {
 
     /// The dual of a row, in units; that of a row of at most counts negative.
     pub fn dual(&self, row: usize) -> i64 {
+        let far = self.ray.get(row).copied().unwrap_or(0);
         match (self.duals.get(row), self.slacks.get(row)) {
             (Some(y), Some(slack)) => {
-                let units = *y >> (12u32.saturating_sub(self.shift).min(12));
+                let units = (*y >> (12u32.saturating_sub(self.shift).min(12))).wrapping_add(far);
                 if slack.high > 0 { units.wrapping_neg() } else { units }
             }
             _ => 0,

@@ -10,3 +10,6 @@ mod made;
 pub use answer::LpAnswer;
 pub use lp::Lp;
 pub use lpcheck::{Column, Row, Sense};
+
+#[cfg(test)]
+mod tests;

@@ -128,6 +128,7 @@ impl Engine {
         })?;
         self.rho.push(0)?;
         self.duals.push(0)?;
+        self.ray.push(0)?;
         Ok(())
     }
 

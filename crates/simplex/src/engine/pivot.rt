@@ -56,6 +56,7 @@ fn is_worse(miss: i64, weight: i64, worst: i64, worst_weight: i64) -> bool {
 impl Engine {
     /// At most so many pivots, until every line is within its bounds, or one shows that the program has no values.
     pub fn pivot_all(&mut self, table: &[Cells], pivots: u32) -> Result<(), AllocError> {
+        self.forget_ray();
         self.refresh();
         let mut fresh = true;
         for _ in 0..pivots {
@@ -72,8 +73,7 @@ impl Engine {
                     self.price(table);
                     let Some(chosen) = self.entering(miss < 0) else {
                         self.follow_ray(miss < 0);
-                        self.mend_values();
-                        return Ok(());
+                        break;
                     };
                     self.pivot(line, miss, &chosen)?;
                     fresh = false;

@@ -2,8 +2,8 @@
 use super::fixed::{ONE, mul};
 use super::{Engine, Head, State, dot};
 
-// how far duals go along a ray, at their greatest
-const LONG: i64 = 1_125_899_906_842_624;
+// how far duals go along a ray, in units, at their greatest
+const LONG: i64 = 288_230_376_151_711_744;
 
 impl Engine {
     /// Hands the lines' values to their variables.
@@ -124,16 +124,23 @@ impl Engine {
         self.mend_values();
     }
 
-    /// Moves the duals far along the ray that `rho` is, where no values meet the rows: against it where the line is to rise.
+    /// Forgets the ray of a program that had no values.
+    pub fn forget_ray(&mut self) {
+        for far in self.ray.iter_mut() {
+            *far = 0;
+        }
+    }
+
+    /// Goes far along the ray that `rho` is, where no values meet the rows: against it where the line is to rise.
     pub fn follow_ray(&mut self, up: bool) {
         let mut most: i64 = 1;
         for x in self.rho.iter() {
             most = most.max(x.wrapping_abs());
         }
         let times = LONG.wrapping_div(most.max(1)).max(1);
-        for (dual, x) in self.duals.iter_mut().zip(&self.rho) {
-            let far = x.wrapping_mul(times);
-            *dual = if up { dual.wrapping_sub(far) } else { dual.wrapping_add(far) };
+        for (far, x) in self.ray.iter_mut().zip(&self.rho) {
+            let along = x.wrapping_mul(times);
+            *far = if up { along.wrapping_neg() } else { along };
         }
     }
 }

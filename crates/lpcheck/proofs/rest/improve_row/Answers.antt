@@ -87,7 +87,7 @@ returns-clause-costs c =
     let read : to_z w64 (of_z w64 y) ≡ y = omega (arith, ints, size.low, size.high) in
     let back : d ≡ c.change.result = omega (arith, ints) in
     let is_d : d ≡ signed r.sense next -ℤ signed r.sense y =
-        back ∙ c.change.ensures ∙ ap (λ (z : ℤ). signed r.sense next -ℤ signed r.sense z) read in
+    back ∙ c.change.ensures ∙ ap (λ (z : ℤ). signed r.sense next -ℤ signed r.sense z) read in
     costs_step c.args.rows.now c.args.cols.now c.args.ys.now c.args.rs.now c.lower.new.rs c.args.at r c.list-cells.result.now next d
     c.requires.place c.requires.duals.all c.index-rows-at.is c.requires.costs (cells_are here) is_d c.lower.ensures
 
@@ -99,9 +99,9 @@ returns-clause-better c = λ yes.
     let large : pos 1024 ≤ℤ c.best_step-best.result.gain = grind (arith, ints, c.if-best-lt1024.false) in
     let same : to_z w64 (of_z w64 c.best_step-best.result.next) ≡ c.best_step-best.result.next = omega (arith, ints) in
     let lower = lower_step c.args.rows.now c.args.cols.now c.args.ys.now c.args.at c.index-rows-at.result c.deref.result.now (to_z w64 (of_z w64 y)) (to_z w64 (of_z w64 c.best_step-best.result.next))
-        c.requires.place c.requires.duals.all c.index-rows-at.is (omega (arith, ints, size.low, size.high))
-        (tells_row c.args.rows.now c.args.cols.now c.args.ys.now c.args.rs.now c.index-rows-at.result c.list-cells.result.now c.deref.result.now c.requires.costs (cells_are here)
-        (λ d. ap (λ (ps : List Piece). pieces_gain ps d) c.deref.ensures.value ∙ c.in_ok-pieces.ensures.gains d)) in
+    c.requires.place c.requires.duals.all c.index-rows-at.is (omega (arith, ints, size.low, size.high))
+    (tells_row c.args.rows.now c.args.cols.now c.args.ys.now c.args.rs.now c.index-rows-at.result c.list-cells.result.now c.deref.result.now c.requires.costs (cells_are here)
+    (λ d. ap (λ (ps : List Piece). pieces_gain ps d) c.deref.ensures.value ∙ c.in_ok-pieces.ensures.gains d)) in
     let gained = (c.best_step-best.ensures.found large).gains in
     let at_next = ap (λ (z : ℤ). step_gain c.index-rows-at.result.sense c.index-rows-at.result.rhs c.deref.result.now (to_z w64 (of_z w64 y)) z) same in
     omega (arith, ints, lower, gained, at_next, large)
