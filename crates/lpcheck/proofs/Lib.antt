@@ -1,5 +1,5 @@
 mod Products
-mod Bounds
+pub mod Bounds
 mod CellLemmas
 mod Sums
 mod Changes

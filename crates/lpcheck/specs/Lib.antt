@@ -4,3 +4,4 @@ pub mod Answers
 pub mod Rests
 pub mod Cells
 pub mod Steps
+pub mod Added

@@ -65,6 +65,7 @@ pub fn judge(
     ensures good { IfOk result (λ j. IsTrue j.is_good ↔ IsGood rows.now cols.now xs.now ys.new) }
     ensures rests { IfOk result (λ j. j.is_good ≡ false → AreAtRest rows.now cols.now ys.new) }
     ensures fault { IfOk result (λ j. j.fault ≡ fault rows.now cols.now xs.now) }
+    ensures small { IfOk result (λ j. j.fault ≤ 2 ^ 90) }
     ensures gap { IfOk result (λ j. j.gap ≡ gap rows.now cols.now xs.now ys.new) }
 {
     let mut rs = reduced_costs(alloc, table, rows, cols, ys)?;

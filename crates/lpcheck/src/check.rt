@@ -59,7 +59,8 @@ fn share(cell: &Cell, xs: &[u32]) -> u64
 fn activity_of(cells: &[Cell], xs: &[u32]) -> u128
     requires within { AreWithin (length xs.now) cells.now }
     requires few { length cells.now ≤ 4194304 }
-    ensures { result ≡ dot cells.now xs.now }
+    ensures value { result ≡ dot cells.now xs.now }
+    ensures small { result ≤ 2 ^ 90 }
 {
     let mut total: u128 = 0;
     for cell in cells {
@@ -69,7 +70,9 @@ fn activity_of(cells: &[Cell], xs: &[u32]) -> u128
 }
 
 fn short_of(sense: Sense, a: u128, rhs: u32) -> u128
-    ensures { result ≡ short sense a (scale * rhs) }
+    requires { a ≤ 2 ^ 90 }
+    ensures value { result ≡ short sense a (scale * rhs) }
+    ensures small { result ≤ 2 ^ 90 }
 {
     let b = (1 << 20) * u128::from(rhs);
     match sense {
@@ -84,13 +87,15 @@ pub fn miss_of(row: &Row, cells: &[Cell], cols: &[Column], xs: &[u32]) -> u128
     requires cells { cells.now ≡ cells_of cols.now row.now }
     requires few_cols { length cols.now ≤ 4194304 }
     requires size { length xs.now ≡ length cols.now }
-    ensures { result ≡ miss cols.now xs.now row.now }
+    ensures value { result ≡ miss cols.now xs.now row.now }
+    ensures small { result ≤ 2 ^ 90 }
 {
     short_of(row.sense, activity_of(cells, xs), row.rhs)
 }
 
 fn box_miss_of(must: bool, x: u32) -> u128
-    ensures { result ≡ box_miss must x }
+    ensures value { result ≡ box_miss must x }
+    ensures small { result ≤ 2 ^ 90 }
 {
     if must {
         u128::from(x.abs_diff(1 << 20))
@@ -103,7 +108,8 @@ fn rows_fault_of(table: &[Cells], rows: &[Row], cols: &[Column], xs: &[u32]) -> 
     requires table { table.now ≡ table_of rows.now cols.now }
     requires few_cols { length cols.now ≤ 4194304 }
     requires size { length xs.now ≡ length cols.now }
-    ensures { result ≡ rows_fault cols.now xs.now rows.now }
+    ensures value { result ≡ rows_fault cols.now xs.now rows.now }
+    ensures small { result ≤ 2 ^ 90 }
 {
     let mut most: u128 = 0;
     for at in 0..rows.len() {
@@ -114,7 +120,8 @@ fn rows_fault_of(table: &[Cells], rows: &[Row], cols: &[Column], xs: &[u32]) -> 
 
 fn boxes_fault_of(cols: &[Column], xs: &[u32]) -> u128
     requires { length xs.now ≡ length cols.now }
-    ensures { result ≡ boxes_fault cols.now xs.now }
+    ensures value { result ≡ boxes_fault cols.now xs.now }
+    ensures small { result ≤ 2 ^ 90 }
 {
     let mut most: u128 = 0;
     for at in 0..cols.len() {
@@ -128,7 +135,8 @@ pub fn fault_of(table: &[Cells], rows: &[Row], cols: &[Column], xs: &[u32]) -> u
     requires table { table.now ≡ table_of rows.now cols.now }
     requires few_cols { length cols.now ≤ 4194304 }
     requires size { length xs.now ≡ length cols.now }
-    ensures { result ≡ fault rows.now cols.now xs.now }
+    ensures value { result ≡ fault rows.now cols.now xs.now }
+    ensures small { result ≤ 2 ^ 90 }
 {
     rows_fault_of(table, rows, cols, xs).max(boxes_fault_of(cols, xs))
 }

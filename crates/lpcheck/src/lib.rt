@@ -2,6 +2,7 @@
 //! Nothing here searches: whoever proposes values and duals, this crate says what they are worth.
 #![tactic(auto)]
 
+mod added;
 mod answer;
 mod cells;
 mod check;
@@ -14,7 +15,9 @@ mod rest;
 mod row;
 mod step;
 
+pub use added::{falls_any, misses_any};
 pub use answer::{Judged, judge};
 pub use cells::{Cell, Cells, table_of};
 pub use column::Column;
+pub use reduced::reduced_costs;
 pub use row::{Row, Sense};

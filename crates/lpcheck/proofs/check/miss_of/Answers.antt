@@ -16,9 +16,9 @@ activity_of-requires-clause-few c =
     let few = cells_few 0 c.args.row.now c.args.cols.now in
     omega (arith, same, few, c.requires.few_cols)
 
-pub returns : goal.returns
-returns c =
+pub returns-clause-value : goal.returns-clause-value
+returns-clause-value c =
     let row = c.args.row.now in
-    c.short_of.ensures
+    c.short_of.ensures.value
     ∙ ap (λ (a : ℕ). short row.sense a (scale * row.rhs))
-    (c.activity_of.ensures ∙ ap (λ (l : List Cell). dot l c.args.xs.now) c.requires.cells ∙ dot_is c.args.cols.now row c.args.xs.now c.requires.size)
+    (c.activity_of.ensures.value ∙ ap (λ (l : List Cell). dot l c.args.xs.now) c.requires.cells ∙ dot_is c.args.cols.now row c.args.xs.now c.requires.size)

@@ -1,0 +1,4 @@
+pub mod Columns
+pub mod ColumnsInside
+pub mod Lp
+pub mod LpInside

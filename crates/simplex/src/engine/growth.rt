@@ -1,0 +1,168 @@
+//! New rows and columns.
+use super::fixed::{FAR, ONE};
+use super::{Engine, Entry, Head, Line, Pair, Slack, State, dot};
+use lpcheck::{Cells, Column, Row, Sense};
+use std::alloc::{AllocError, Global};
+
+/// The next of some numbers that look drawn.
+fn next(seed: u64) -> u64 {
+    seed.wrapping_mul(6_364_136_223_846_793_005)
+        .wrapping_add(1_442_695_040_888_963_407)
+}
+
+/// A coefficient that is negated and multiplied by.
+#[inline]
+fn take_off(sum: i64, coef: u16, x: i64) -> i64 {
+    sum.wrapping_sub(i64::from(coef).wrapping_mul(x))
+}
+
+impl Engine {
+    /// Takes in the rows and columns that came since.
+    pub fn grow(
+        &mut self,
+        alloc: Global,
+        table: &[Cells],
+        rows: &[Row],
+        cols: &[Column],
+    ) -> Result<(), AllocError> {
+        let old_rows = self.slacks.len();
+        let old_cols = self.pairs.len();
+        for _ in old_cols..cols.len() {
+            self.steps.push(0)?;
+        }
+        for column in cols.iter().skip(old_cols) {
+            self.add_pair(alloc, column, cols.len())?;
+        }
+        for (cells, place) in table.iter().zip(0..old_rows) {
+            self.add_entries(cells, place, old_cols)?;
+        }
+        self.start_pairs(old_cols);
+        for (row, cells) in rows.iter().zip(table).skip(old_rows) {
+            self.add_row(alloc, row, cells)?;
+        }
+        Ok(())
+    }
+
+    /// A new column, without its entries.
+    fn add_pair(&mut self, alloc: Global, column: &Column, all: usize) -> Result<(), AllocError> {
+        self.seed = next(self.seed);
+        let part = (self.seed >> 36) as i64;
+        let many = (all & 0xffff_ffff) as i64;
+        let noise = part.wrapping_div(many.wrapping_add(1).max(1));
+        let cost = (i64::from(column.cost).wrapping_mul(ONE)) >> (self.shift.min(12));
+        self.pairs.push(Pair {
+            cost,
+            noise,
+            low: if column.must { ONE } else { 0 },
+            entries: Vec::new(alloc),
+            state: State::Low,
+            reduced: 0,
+            value: if column.must { ONE } else { 0 },
+        })?;
+        Ok(())
+    }
+
+    /// The entries that new columns have in a row.
+    fn add_entries(&mut self, cells: &Cells, row: usize, from: usize) -> Result<(), AllocError> {
+        for cell in cells.list() {
+            if cell.column as usize >= from {
+                self.add_entry(cell.column, row, cell.coef)?;
+            }
+        }
+        Ok(())
+    }
+
+    fn add_entry(&mut self, column: u32, row: usize, coef: u16) -> Result<(), AllocError> {
+        if let Some(pair) = self.pairs.get_mut(column as usize) {
+            pair.entries.push(Entry {
+                row: (row & 0xffff_ffff) as u32,
+                coef: i64::from(coef),
+            })?;
+        }
+        Ok(())
+    }
+
+    /// Puts each new column at the bound that its reduced cost asks for. The values of the lines are mended later.
+    fn start_pairs(&mut self, from: usize) {
+        for pair in self.pairs.iter_mut().skip(from) {
+            pair.reduced = pair
+                .cost
+                .wrapping_add(pair.noise)
+                .wrapping_sub(dot(&pair.entries, &self.duals));
+            if pair.low == 0 && pair.reduced < 0 {
+                pair.state = State::High;
+                pair.value = ONE;
+            }
+        }
+    }
+
+    /// A new row, with its slack basic in a new line.
+    fn add_row(&mut self, alloc: Global, row: &Row, cells: &Cells) -> Result<(), AllocError> {
+        let place = self.slacks.len();
+        self.add_entries(cells, place, 0)?;
+        let rhs = i64::from(row.rhs).wrapping_mul(ONE);
+        let mut value = rhs;
+        for cell in cells.list() {
+            if let Some(pair) = self.pairs.get(cell.column as usize) {
+                value = take_off(value, cell.coef, pair.value);
+            }
+        }
+        let low = if row.sense == Sense::AtLeast { -FAR } else { 0 };
+        let high = if row.sense == Sense::AtMost { FAR } else { 0 };
+        self.border(alloc, cells)?;
+        self.slacks.push(Slack {
+            low,
+            high,
+            rhs,
+            state: State::Basic,
+            reduced: 0,
+            value,
+        })?;
+        self.lines.push(Line {
+            head: Head::Slack((place & 0xffff_ffff) as u32),
+            value,
+            low,
+            high,
+            step: 0,
+            weight: ONE,
+        })?;
+        self.rho.push(0)?;
+        self.duals.push(0)?;
+        self.ray.push(0)?;
+        Ok(())
+    }
+
+    /// The inverse with one more line and column. In `step` each line has the new row's coefficient of its variable.
+    fn border(&mut self, alloc: Global, cells: &Cells) -> Result<(), AllocError> {
+        for step in self.steps.iter_mut() {
+            *step = 0;
+        }
+        for cell in cells.list() {
+            if let Some(step) = self.steps.get_mut(cell.column as usize) {
+                *step = i64::from(cell.coef);
+            }
+        }
+        for line in self.lines.iter_mut() {
+            line.step = match line.head {
+                Head::Column(j) => self.steps.get(j as usize).copied().unwrap_or(0),
+                Head::Slack(_) => 0,
+            };
+        }
+        for column in self.inverse.iter_mut() {
+            let mut last: i64 = 0;
+            for (line, x) in self.lines.iter().zip(column.iter()) {
+                if line.step != 0 {
+                    last = last.wrapping_sub(line.step.wrapping_mul(*x));
+                }
+            }
+            column.push(last)?;
+        }
+        let mut fresh = Vec::with_capacity(alloc, self.lines.len().saturating_add(1))?;
+        for _ in 0..self.lines.len() {
+            fresh.push(0)?;
+        }
+        fresh.push(ONE)?;
+        self.inverse.push(fresh)?;
+        Ok(())
+    }
+}

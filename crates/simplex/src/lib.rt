@@ -1,0 +1,15 @@
+//! Linear programs over rows of city sets, solved in whole numbers by a dual simplex whose answers are checked.
+#![tactic(auto)]
+
+mod answer;
+mod columns;
+mod engine;
+mod lp;
+mod made;
+
+pub use answer::LpAnswer;
+pub use lp::Lp;
+pub use lpcheck::{Column, Row, Sense};
+
+#[cfg(test)]
+mod tests;
