@@ -66,9 +66,10 @@ listed_is (e ∷ es) u v = ap (λ (b : Bool). joins u v (e.u, e.v) || b) (listed
 
 each_is : (n : ℕ) (es : List Entry) → AllByRecursion (IsEntry n) (map unvalued es) → All (λ e. e.x ≤ 2 ^ 30) es → AllByRecursion (IsEntry n) es
 each_is n [] are small = tt
-each_is n (e ∷ es) are small =
-    (record { u_below = are.0.u_below; v_below = are.0.v_below; apart = are.0.apart; small = All-head (λ (q : Entry). q.x ≤ 2 ^ 30) e es small },
-    each_is n es are.1 (All-tail (λ (q : Entry). q.x ≤ 2 ^ 30) e es small))
+each_is n (e ∷ es) are small = (
+  record { u_below = are.0.u_below; v_below = are.0.v_below; apart = are.0.apart; small = All-head (λ (q : Entry). q.x ≤ 2 ^ 30) e es small },
+  each_is n es are.1 (All-tail (λ (q : Entry). q.x ≤ 2 ^ 30) e es small),
+)
 
 distinct_is : (es : List Entry) → ArePairsDistinct (map unvalued es) → ArePairsDistinct es
 distinct_is [] are = tt

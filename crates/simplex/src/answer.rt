@@ -8,7 +8,11 @@ use cyc::Frac;
 pub enum LpAnswer {
     /// The values meet each row and box up to less than 2^10 units, and their cost exceeds the duals' lower side by less
     /// than 2^10 times one more than the greatest cost.
-    Solved { x: Frac, duals: Vec<i128>, gap: i128 },
+    Solved {
+        x: Frac,
+        duals: Vec<i128>,
+        gap: i128,
+    },
     /// They do not; the duals are at rest.
     Rough {
         x: Frac,

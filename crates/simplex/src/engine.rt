@@ -157,7 +157,11 @@ impl Engine {
         match (self.duals.get(row), self.slacks.get(row)) {
             (Some(y), Some(slack)) => {
                 let units = (*y >> (12u32.saturating_sub(self.shift).min(12))).wrapping_add(far);
-                if slack.high > 0 { units.wrapping_neg() } else { units }
+                if slack.high > 0 {
+                    units.wrapping_neg()
+                } else {
+                    units
+                }
             }
             _ => 0,
         }

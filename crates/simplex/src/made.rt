@@ -11,7 +11,7 @@ ghost use Rattle.simplex.specs.Lp.{AreOf, IsAnswer, duals_in};
 use crate::LpAnswer;
 use crate::engine::Engine;
 use cyc::{Entry, Frac};
-use lpcheck::{Cells, Column, Row, Sense, judge, misses_any, falls_any, reduced_costs};
+use lpcheck::{Cells, Column, Row, Sense, falls_any, judge, misses_any, reduced_costs};
 use std::alloc::{AllocError, Global};
 
 /// A dual cut to its sign and size.

@@ -96,7 +96,14 @@ impl Engine {
             if miss > SMALL && (place.is_none() || is_worse(miss, line.weight, worst, weight)) {
                 worst = miss;
                 weight = line.weight;
-                place = Some((i, if below > above { below.wrapping_neg() } else { above }));
+                place = Some((
+                    i,
+                    if below > above {
+                        below.wrapping_neg()
+                    } else {
+                        above
+                    },
+                ));
             }
         }
         place

@@ -76,4 +76,3 @@ invariant_of-self-else-counted c =
       old_cols = omega (arith, all_cols);
       newest = (answer_taken i.n c.len-self-inside.result (length c.all.result.now) i.rows.items i.columns.cols c.args.found.answer (omega (arith, c.len-self-inside.ensures, all_rows)) (omega (arith, all_cols)) answer, c.requires.duals);
     }
-
