@@ -3,11 +3,12 @@
 # instances with n and 10 n kicks, several seeds each, and the mean of how far they are above the optimum or, where none is
 # known, above the shortest tour that came up. Outside the gate. Figures go into docs/PERFORMANCE.md.
 #
-#   bench/lk.sh [SHARED] [SEEDS]
+#   bench/lk.sh [SHARED] [SEEDS] [LEAST]      (LEAST: instances of so many cities or more)
 set -eu
 top=$(cd "$(dirname "$0")/.." && pwd)
 shared=${1:-$top/../shared}
 seeds=${2:-3}
+least=${3:-0}
 work=$(mktemp -d)
 trap 'rm -rf "$work"' EXIT
 
@@ -76,14 +77,16 @@ program=$work/crates/lkbench/out/lkbench
 cp "$shared"/yardstick/tsp.hpp "$shared"/yardstick/lk.cpp "$work/"
 g++ -O2 -std=c++17 -o "$work/lk" "$work/lk.cpp"
 
-python3 - "$program" "$work/lk" "$shared/instances" "$seeds" <<'PY'
+python3 - "$program" "$work/lk" "$shared/instances" "$seeds" "$least" <<'PY'
 import subprocess, sys
-ours, theirs, folder, seeds = sys.argv[1], sys.argv[2], sys.argv[3], int(sys.argv[4])
+ours, theirs, folder, seeds, least = sys.argv[1], sys.argv[2], sys.argv[3], int(sys.argv[4]), int(sys.argv[5])
 rows = [line.split('\t') for line in open(folder + '/optima.tsv').read().splitlines()[1:]]
 run = lambda *words: subprocess.run([str(w) for w in words], capture_output=True, text=True).stdout.split()
 print(f"{'instance':<12} {'n':>5} {'kicks':>6} {'ours (%)':>9} {'C++ (%)':>9} {'ours (s)':>9} {'C++ (s)':>9} {'ratio':>6} {'lists (ms)':>11}")
 for name, n, kind, optimum in sorted(rows, key=lambda r: int(r[1])):
     n, file = int(n), f'{folder}/{name}'
+    if n < least:
+        continue
     found, spent = {}, {}
     for kicks in (1, 10):
         if kicks == 10 and n > 1000:

@@ -12,7 +12,7 @@ use std::alloc::{AllocError, Global};
 use tspinst::Instance;
 
 /// How far apart the steps that a kick takes out are at most.
-const REACH: u32 = 70;
+const REACH: u32 = 60;
 
 /// A tour under work, and the cities at which it may be made shorter.
 #[derive(Drop)]

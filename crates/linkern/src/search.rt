@@ -18,7 +18,7 @@ use std::alloc::{AllocError, Global};
 const NO_GAIN: i64 = i64::MIN;
 
 /// How many steps are added at most.
-const DEPTH: usize = 10;
+const DEPTH: usize = 8;
 
 /// How many cities of each of two near lists are looked at for the exchange of three steps.
 const CYCLE_WIDTH: usize = 5;
