@@ -12,8 +12,6 @@ use tspplain::values::Instance;
 const SQUARE: &str =
     "NAME : square\nTYPE : TSP\nDIMENSION : 4\nEDGE_WEIGHT_TYPE : EUC_2D\nNODE_COORD_SECTION\n1 0 0\n2 0 10\n3 10 10\n4 10 0\nEOF\n";
 
-const BODY: &[u8] = b"TSPCERT 1\nN 4\nLENGTH 40\nTOUR 1 2 3 4\nCUTS 0\nO\n";
-
 const ROOM: Room = Room {
     bytes: 1 << 20,
     paths: 64,
@@ -21,6 +19,7 @@ const ROOM: Room = Room {
 };
 
 /// What is to fail.
+#[derive(Clone, Copy, Drop)]
 struct Faults<'a> {
     most_write: usize,
     bad_binds: &'a [u64],
@@ -38,6 +37,7 @@ const NONE: Faults<'static> = Faults {
 };
 
 /// A run that has ended.
+#[derive(Drop)]
 struct Ended {
     status: Status,
     desk: MemDesk,
@@ -86,18 +86,27 @@ fn solved(alloc: Global, line: &str, text: &str) -> Result<Ended, AllocError> {
     run_with(alloc, line, text, &NONE)
 }
 
+fn is_bound_to(path: Option<&[u8]>, word: &[u8]) -> bool {
+    match path {
+        Some(path) => path == word,
+        None => false,
+    }
+}
+
 #[test]
 fn small_instances_are_solved(rt: HostRuntime) -> Result<(), Fail> {
     let alloc = rt.alloc();
     let square = solved(alloc, "tspc solve a b c", SQUARE)?;
     assert_eq!(rt; square.status, Status::Optimal);
     assert_eq!(rt; square.text(), b"OPTIMAL 40\nTOUR 1 2 3 4\n".as_slice());
-    assert_eq!(rt;
-        square.desk.proof()[..40],
-        b"TSPCERT 1\nN 4\nLENGTH 40\nTOUR 1 2 3 4\nCUT"[..]
+    assert!(rt;
+        square
+            .desk
+            .proof()
+            .starts_with(b"TSPCERT 1\nN 4\nLENGTH 40\nTOUR 1 2 3 4\nCUTS 0\n")
     );
-    assert_eq!(rt; square.desk.proof_path(), Some(b"b".as_slice()));
-    assert_eq!(rt; square.slots.path(), Some(b"c".as_slice()));
+    assert!(rt; is_bound_to(square.desk.proof_path(), b"b"));
+    assert!(rt; is_bound_to(square.slots.path(), b"c"));
     assert_eq!(rt; square.slots.slot(0), b"".as_slice());
     let budgeted = solved(alloc, "tspc solve a b c --budget 200", SQUARE)?;
     assert_eq!(rt; budgeted.status, Status::Optimal);
@@ -130,15 +139,17 @@ fn a_spent_budget_leaves_a_body(rt: HostRuntime) -> Result<(), Fail> {
     assert_eq!(rt; ended.status, Status::Stopped);
     assert_eq!(rt; ended.text(), b"STOPPED 40 1\n".as_slice());
     assert_eq!(rt; ended.desk.proof(), b"".as_slice());
-    assert_eq!(rt; ended.slots.slot(0)[..10], b"\x01\0\0\0\0\0\0\0\0\x2e"[..]);
-    assert_eq!(rt; ended.slots.slot(0)[10..], BODY[..]);
+    assert_eq!(rt;
+        ended.slots.slot(0),
+        b"\x01\0\0\0\0\0\0\0\0\x2eTSPCERT 1\nN 4\nLENGTH 40\nTOUR 1 2 3 4\nCUTS 0\nO\n".as_slice()
+    );
     assert_eq!(rt; ended.slots.slot(1), b"".as_slice());
     let split = solved(alloc, "tspc solve a b c --budget 1", SQUARE)?;
     assert_eq!(rt; split.status, Status::Stopped);
     assert_eq!(rt; split.text(), b"STOPPED 40 2\n".as_slice());
     assert_eq!(rt;
-        split.slots.slot(0)[10..],
-        b"TSPCERT 1\nN 4\nLENGTH 40\nTOUR 1 2 3 4\nCUTS 0\nE 1 2\nO\nO\n"[..]
+        split.slots.slot(0),
+        b"\x01\0\0\0\0\0\0\0\0\x36TSPCERT 1\nN 4\nLENGTH 40\nTOUR 1 2 3 4\nCUTS 0\nE 1 2\nO\nO\n".as_slice()
     );
     Ok(())
 }
@@ -369,7 +380,9 @@ fn random_matrix(alloc: Global, state: &mut u64) -> Result<(String, Instance), A
         for v in u + 1..5 {
             let weight = next(state, 1000);
             text.push_str(&format!(in alloc; "{weight}\n")?)?;
-            table[u * 5 + v] = weight as u32;
+            if let Some(cell) = table.get_mut(u * 5 + v) {
+                *cell = weight as u32;
+            }
         }
     }
     Ok((text, Instance { n: 5, table }))
