@@ -1,6 +1,8 @@
 //! Whole runs over a desk and slots in memory. The expected bytes are those of the worked values of the formats, and lengths
 //! those of all tours.
 
+ghost use Rattle.std.specs.Prelude.{◌<◌};
+
 use crate::{Status, run};
 use ports::{MemDesk, MemSlots, Room, SlotCall};
 use std::alloc::{AllocError, Global};
