@@ -11,6 +11,3 @@ mod texts;
 
 pub use running::run;
 pub use statuses::Status;
-
-#[cfg(test)]
-mod tests;
