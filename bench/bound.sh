@@ -6,14 +6,8 @@
 #   RUN='taskset -c 3' bench/bound.sh    both on one core
 set -eu
 top=$(cd "$(dirname "$0")/.." && pwd)
-work=$(mktemp -d)
-trap 'rm -rf "$work"' EXIT
-
-cp "$top/HANDLES" "$work/"
-cp -r "$top/crates" "$work/crates"
-{ cat "$top/crates.txt"; echo "boundbench: pricer branchx cutform cyc tspinst distx anyhow"; } >"$work/crates.txt"
-mkdir -p "$work/crates/boundbench/src" "$work/crates/boundbench/specs" "$work/crates/boundbench/proofs"
-touch "$work/crates/boundbench/specs/Lib.antt" "$work/crates/boundbench/proofs/Lib.antt"
+. "$top/bench/workspace.sh"
+workspace boundbench 'pricer branchx cutform cyc tspinst distx anyhow'
 cat >"$work/crates/boundbench/src/main.rt" <<'RT'
 //! boundbench: times the bound at n = 2000 with some cuts of 50 cities. Prints the cuts, the best of five times in
 //! microseconds, and the bound.

@@ -9,14 +9,8 @@ top=$(cd "$(dirname "$0")/.." && pwd)
 shared=${1:-$top/../shared}
 seeds=${2:-3}
 least=${3:-0}
-work=$(mktemp -d)
-trap 'rm -rf "$work"' EXIT
-
-cp "$top/HANDLES" "$work/"
-cp -r "$top/crates" "$work/crates"
-{ cat "$top/crates.txt"; echo "lkbench: linkern neigh tspinst ports cyc anyhow"; } >"$work/crates.txt"
-mkdir -p "$work/crates/lkbench/src" "$work/crates/lkbench/specs" "$work/crates/lkbench/proofs"
-touch "$work/crates/lkbench/specs/Lib.antt" "$work/crates/lkbench/proofs/Lib.antt"
+. "$top/bench/workspace.sh"
+workspace lkbench 'linkern neigh tspinst ports cyc anyhow'
 cat >"$work/crates/lkbench/src/main.rt" <<'RT'
 //! lkbench INSTANCE KICKS SEED: improves the nearest-neighbour walk with so many kicks for each city. Prints the number of
 //! cities, the walk's length, the tour's, and microseconds of the processor: for the near lists, and for all but reading.

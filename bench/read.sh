@@ -6,15 +6,8 @@
 set -eu
 top=$(cd "$(dirname "$0")/.." && pwd)
 instances=${1:-$top/../shared/instances}
-work=$(mktemp -d)
-trap 'rm -rf "$work"' EXIT
-
-# a program over the reader, proved and built in a copy of the crates
-cp "$top/HANDLES" "$work/"
-cp -r "$top/crates" "$work/crates"
-{ cat "$top/crates.txt"; echo "readbench: tspinst ports cyc anyhow"; } >"$work/crates.txt"
-mkdir -p "$work/crates/readbench/src" "$work/crates/readbench/specs" "$work/crates/readbench/proofs"
-touch "$work/crates/readbench/specs/Lib.antt" "$work/crates/readbench/proofs/Lib.antt"
+. "$top/bench/workspace.sh"
+workspace readbench 'tspinst ports cyc anyhow'
 cat >"$work/crates/readbench/src/main.rt" <<'RT'
 //! readbench INSTANCE [CITY ..]: reads an instance and prints its size, or its refusal; with cities, the length of the tour.
 #![tactic(auto)]

@@ -6,14 +6,8 @@
 #   RUN='taskset -c 3' bench/tree.sh    on one core
 set -eu
 top=$(cd "$(dirname "$0")/.." && pwd)
-work=$(mktemp -d)
-trap 'rm -rf "$work"' EXIT
-
-cp "$top/HANDLES" "$work/"
-cp -r "$top/crates" "$work/crates"
-{ cat "$top/crates.txt"; echo "treebench: treebook branchx anyhow"; } >"$work/crates.txt"
-mkdir -p "$work/crates/treebench/src" "$work/crates/treebench/specs" "$work/crates/treebench/proofs"
-touch "$work/crates/treebench/specs/Lib.antt" "$work/crates/treebench/proofs/Lib.antt"
+. "$top/bench/workspace.sh"
+workspace treebench 'treebook branchx anyhow'
 cat >"$work/crates/treebench/src/main.rt" <<'RT'
 //! treebench: times splits and paths in a chain of nodes. Prints a line for each: its name, the depth, and the best time
 //! in nanoseconds.

@@ -5,14 +5,8 @@
 #   bench/write.sh
 set -eu
 top=$(cd "$(dirname "$0")/.." && pwd)
-work=$(mktemp -d)
-trap 'rm -rf "$work"' EXIT
-
-cp "$top/HANDLES" "$work/"
-cp -r "$top/crates" "$work/crates"
-{ cat "$top/crates.txt"; echo "writebench: certform treebook pricer branchx cutform cyc tspinst distx anyhow"; } >"$work/crates.txt"
-mkdir -p "$work/crates/writebench/src" "$work/crates/writebench/specs" "$work/crates/writebench/proofs"
-touch "$work/crates/writebench/specs/Lib.antt" "$work/crates/writebench/proofs/Lib.antt"
+. "$top/bench/workspace.sh"
+workspace writebench 'certform treebook pricer branchx cutform cyc tspinst distx anyhow'
 cat >"$work/crates/writebench/src/main.rt" <<'RT'
 //! writebench: times the writing of a large proof. Prints its bytes and the best of five times in microseconds.
 #![tactic(auto)]
