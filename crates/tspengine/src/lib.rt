@@ -11,3 +11,6 @@ mod texts;
 
 pub use running::run;
 pub use statuses::Status;
+
+#[cfg(test)]
+mod tests;

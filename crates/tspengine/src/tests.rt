@@ -1,0 +1,426 @@
+//! Whole runs over a desk and slots in memory. The expected bytes are those of the worked values of the formats, and lengths
+//! those of all tours.
+
+ghost use Rattle.std.specs.Prelude.{◌<◌};
+
+use crate::{Status, run};
+use ports::{MemDesk, MemSlots, Room, SlotCall};
+use std::alloc::{AllocError, Global};
+use std::test::Fail;
+use tspplain::search::least_tour;
+use tspplain::tours::tour_length;
+use tspplain::values::Instance;
+
+const SQUARE: &str =
+    "NAME : square\nTYPE : TSP\nDIMENSION : 4\nEDGE_WEIGHT_TYPE : EUC_2D\nNODE_COORD_SECTION\n1 0 0\n2 0 10\n3 10 10\n4 10 0\nEOF\n";
+
+const ROOM: Room = Room {
+    bytes: 1 << 20,
+    paths: 64,
+    calls: 100_000,
+};
+
+/// What is to fail.
+#[derive(Clone, Copy, Drop)]
+struct Faults<'a> {
+    most_write: usize,
+    bad_binds: &'a [u64],
+    bad_reads: &'a [u64],
+    bad_writes: &'a [u64],
+    bad_slots: &'a [(SlotCall, u64)],
+}
+
+const NONE: Faults<'static> = Faults {
+    most_write: 65_536,
+    bad_binds: &[],
+    bad_reads: &[],
+    bad_writes: &[],
+    bad_slots: &[],
+};
+
+/// A run that has ended.
+#[derive(Drop)]
+struct Ended {
+    status: Status,
+    desk: MemDesk,
+    slots: MemSlots,
+}
+
+impl Ended {
+    fn text(&self) -> &[u8] {
+        self.desk.text()
+    }
+}
+
+fn words(alloc: Global, line: &str) -> Result<Vec<String>, AllocError> {
+    let mut words = Vec::new(alloc);
+    for word in line.split(' ') {
+        words.push(format!(in alloc; "{word}")?)?;
+    }
+    Ok(words)
+}
+
+/// Runs the words of a line on an instance's text.
+fn run_with(alloc: Global, line: &str, text: &str, faults: &Faults<'_>) -> Result<Ended, AllocError>
+    requires { 0 < faults.now.most_write }
+{
+    let mut desk = MemDesk::new(
+        alloc,
+        text.as_bytes(),
+        b"",
+        4096,
+        faults.most_write,
+        faults.bad_binds,
+        faults.bad_reads,
+        faults.bad_writes,
+        ROOM,
+    )?;
+    let mut slots = MemSlots::new(alloc, b"", b"", faults.bad_slots, ROOM)?;
+    let status = run(&(), alloc, &words(alloc, line)?, &mut desk, &mut slots);
+    Ok(Ended {
+        status,
+        desk,
+        slots,
+    })
+}
+
+fn solved(alloc: Global, line: &str, text: &str) -> Result<Ended, AllocError> {
+    run_with(alloc, line, text, &NONE)
+}
+
+fn is_bound_to(path: Option<&[u8]>, word: &[u8]) -> bool {
+    match path {
+        Some(path) => path == word,
+        None => false,
+    }
+}
+
+#[test]
+fn small_instances_are_solved(rt: HostRuntime) -> Result<(), Fail> {
+    let alloc = rt.alloc();
+    let square = solved(alloc, "tspc solve a b c", SQUARE)?;
+    assert_eq!(rt; square.status, Status::Optimal);
+    assert_eq!(rt; square.text(), b"OPTIMAL 40\nTOUR 1 2 3 4\n".as_slice());
+    assert!(rt;
+        square
+            .desk
+            .proof()
+            .starts_with(b"TSPCERT 1\nN 4\nLENGTH 40\nTOUR 1 2 3 4\nCUTS 0\n")
+    );
+    assert!(rt; is_bound_to(square.desk.proof_path(), b"b"));
+    assert!(rt; is_bound_to(square.slots.path(), b"c"));
+    assert_eq!(rt; square.slots.slot(0), b"".as_slice());
+    let budgeted = solved(alloc, "tspc solve a b c --budget 200", SQUARE)?;
+    assert_eq!(rt; budgeted.status, Status::Optimal);
+    assert_eq!(rt; budgeted.desk.proof(), square.desk.proof());
+    let triangle = solved(
+        alloc,
+        "tspc solve a b c --budget 200",
+        "TYPE : TSP\nDIMENSION : 3\nEDGE_WEIGHT_TYPE : EUC_2D\nNODE_COORD_SECTION\n1 0 0\n2 3 0\n3 0 4\n",
+    )?;
+    assert_eq!(rt; triangle.status, Status::Optimal);
+    assert_eq!(rt; triangle.text(), b"OPTIMAL 12\nTOUR 1 2 3\n".as_slice());
+    let point = solved(
+        alloc,
+        "tspc solve a b c",
+        "TYPE : TSP\nDIMENSION : 4\nEDGE_WEIGHT_TYPE : EUC_2D\nNODE_COORD_SECTION\n1 5 5\n2 5 5\n3 5 5\n4 5 5\n",
+    )?;
+    assert_eq!(rt; point.status, Status::Optimal);
+    assert_eq!(rt; point.text(), b"OPTIMAL 0\nTOUR 1 2 3 4\n".as_slice());
+    assert_eq!(rt;
+        point.desk.proof(),
+        b"TSPCERT 1\nN 4\nLENGTH 0\nTOUR 1 2 3 4\nCUTS 0\nL 0 0 0\n".as_slice()
+    );
+    Ok(())
+}
+
+#[test]
+fn a_spent_budget_leaves_a_body(rt: HostRuntime) -> Result<(), Fail> {
+    let alloc = rt.alloc();
+    let ended = solved(alloc, "tspc solve a b c --budget 0", SQUARE)?;
+    assert_eq!(rt; ended.status, Status::Stopped);
+    assert_eq!(rt; ended.text(), b"STOPPED 40 1\n".as_slice());
+    assert_eq!(rt; ended.desk.proof(), b"".as_slice());
+    assert_eq!(rt;
+        ended.slots.slot(0),
+        b"\x01\0\0\0\0\0\0\0\0\x2eTSPCERT 1\nN 4\nLENGTH 40\nTOUR 1 2 3 4\nCUTS 0\nO\n".as_slice()
+    );
+    assert_eq!(rt; ended.slots.slot(1), b"".as_slice());
+    let split = solved(alloc, "tspc solve a b c --budget 1", SQUARE)?;
+    assert_eq!(rt; split.status, Status::Stopped);
+    assert_eq!(rt; split.text(), b"STOPPED 40 2\n".as_slice());
+    assert_eq!(rt;
+        split.slots.slot(0),
+        b"\x01\0\0\0\0\0\0\0\0\x36TSPCERT 1\nN 4\nLENGTH 40\nTOUR 1 2 3 4\nCUTS 0\nE 1 2\nO\nO\n".as_slice()
+    );
+    Ok(())
+}
+
+/// The square's text with one line, from 1, in place of another.
+fn with_line(alloc: Global, number: usize, line: &str) -> Result<String, AllocError> {
+    let mut text = format!(in alloc; "")?;
+    for (k, old) in SQUARE.lines().enumerate() {
+        let new = if k + 1 == number { line } else { old };
+        text.push_str(new)?;
+        text.push_str("\n")?;
+    }
+    Ok(text)
+}
+
+#[test]
+fn refusals_of_an_instance_are_printed(rt: HostRuntime) -> Result<(), Fail> {
+    let alloc = rt.alloc();
+    let rows: [(usize, &str, &[u8]); 5] = [
+        (7, "2 0 565.5", b"INSTANCE 9 7 2\n"),
+        (4, "EDGE_WEIGHT_TYPE : GEO", b"INSTANCE 5 4\n"),
+        (3, "DIMENSION : 2", b"INSTANCE 7 3\n"),
+        (3, "DIMENSION : 2001", b"INSTANCE 7 3\n"),
+        (9, "3 10 0", b"INSTANCE 10 9\n"),
+    ];
+    for (number, line, want) in rows {
+        let ended = solved(alloc, "tspc solve a b c", &with_line(alloc, number, line)?)?;
+        assert_eq!(rt; ended.status, Status::BadInstance);
+        assert_eq!(rt; ended.text(), want);
+        assert_eq!(rt; ended.desk.proof(), b"".as_slice());
+    }
+    let texts: [(&str, &[u8]); 3] = [
+        (
+            "NAME : square\nTYPE : TSP\nDIMENSION : 4\nEDGE_WEIGHT_TYPE : EUC_2D\nNODE_COORD_SECTION\n1 0 0\n2 0 10\n",
+            b"INSTANCE 12 0\n",
+        ),
+        ("", b"INSTANCE 13 0 1\n"),
+        (
+            "TYPE : TSP\nDIMENSION : 3\nEDGE_WEIGHT_TYPE : EXPLICIT\nEDGE_WEIGHT_FORMAT : FULL_MATRIX\nEDGE_WEIGHT_SECTION\n0 5 7\n6 0 8\n7 8 0\n",
+            b"INSTANCE 11 7 1 2\n",
+        ),
+    ];
+    for (text, want) in texts {
+        let ended = solved(alloc, "tspc solve a b c", text)?;
+        assert_eq!(rt; ended.status, Status::BadInstance);
+        assert_eq!(rt; ended.text(), want);
+    }
+    Ok(())
+}
+
+#[test]
+fn other_words_are_usage(rt: HostRuntime) -> Result<(), Fail> {
+    let alloc = rt.alloc();
+    for line in [
+        "tspc",
+        "tspc solve a",
+        "tspc solve a b c --budget 65537",
+        "tspc bench 1 2 5 p",
+        "tspc --help",
+        "tspc solve --help",
+        "tspc solve a b c d",
+    ] {
+        let ended = solved(alloc, line, SQUARE)?;
+        assert_eq!(rt; ended.status, Status::Usage);
+        assert_eq!(rt;
+            ended.text(),
+            b"USAGE tspc solve/verify/tour/bench\n".as_slice()
+        );
+        assert_eq!(rt; ended.desk.proof(), b"".as_slice());
+    }
+    Ok(())
+}
+
+#[test]
+fn a_failing_write_leaves_a_front(rt: HostRuntime) -> Result<(), Fail> {
+    let alloc = rt.alloc();
+    let whole = solved(alloc, "tspc solve a b c", SQUARE)?;
+    let proof = whole.desk.proof().len();
+    let ended = run_with(
+        alloc,
+        "tspc solve a b c",
+        SQUARE,
+        &Faults {
+            most_write: 1,
+            bad_writes: &[5],
+            ..NONE
+        },
+    )?;
+    assert_eq!(rt; ended.status, Status::WriteFault);
+    assert_eq!(rt; ended.desk.proof(), b"TSPC".as_slice());
+    assert_eq!(rt; ended.text(), b"".as_slice());
+    let writes = proof + whole.text().len();
+    for k in 1..writes + 1 {
+        let bad = [k as u64];
+        let cut = run_with(
+            alloc,
+            "tspc solve a b c",
+            SQUARE,
+            &Faults {
+                most_write: 1,
+                bad_writes: &bad,
+                ..NONE
+            },
+        )?;
+        assert_eq!(rt; cut.status, Status::WriteFault);
+        assert_eq!(rt; cut.desk.proof().len(), proof.min(k - 1));
+        assert_eq!(rt; cut.text().len(), k - 1 - proof.min(k - 1));
+        assert!(rt; whole.desk.proof().starts_with(cut.desk.proof()));
+        assert!(rt; whole.text().starts_with(cut.text()));
+    }
+    let unbound = run_with(
+        alloc,
+        "tspc solve a b c",
+        SQUARE,
+        &Faults {
+            bad_binds: &[2],
+            ..NONE
+        },
+    )?;
+    assert_eq!(rt; unbound.status, Status::WriteFault);
+    assert_eq!(rt; unbound.desk.proof(), b"".as_slice());
+    Ok(())
+}
+
+#[test]
+fn a_failing_read_is_told(rt: HostRuntime) -> Result<(), Fail> {
+    let alloc = rt.alloc();
+    for k in 1..3 {
+        let bad = [k];
+        let ended = run_with(
+            alloc,
+            "tspc solve a b c",
+            SQUARE,
+            &Faults {
+                bad_reads: &bad,
+                ..NONE
+            },
+        )?;
+        assert_eq!(rt; ended.status, Status::ReadFault);
+        assert_eq!(rt; ended.text(), b"".as_slice());
+    }
+    let unbound = run_with(
+        alloc,
+        "tspc solve a b c",
+        SQUARE,
+        &Faults {
+            bad_binds: &[1],
+            ..NONE
+        },
+    )?;
+    assert_eq!(rt; unbound.status, Status::ReadFault);
+    let past = run_with(
+        alloc,
+        "tspc solve a b c",
+        SQUARE,
+        &Faults {
+            bad_reads: &[3],
+            ..NONE
+        },
+    )?;
+    assert_eq!(rt; past.status, Status::Optimal);
+    Ok(())
+}
+
+#[test]
+fn failing_slots_matter_where_they_are_used(rt: HostRuntime) -> Result<(), Fail> {
+    let alloc = rt.alloc();
+    let bad = [
+        (SlotCall::Write, 1),
+        (SlotCall::Write, 2),
+        (SlotCall::Write, 3),
+    ];
+    let unused = run_with(
+        alloc,
+        "tspc solve a b c",
+        SQUARE,
+        &Faults {
+            bad_slots: &bad,
+            ..NONE
+        },
+    )?;
+    assert_eq!(rt; unused.status, Status::Optimal);
+    assert_eq!(rt; unused.text(), b"OPTIMAL 40\nTOUR 1 2 3 4\n".as_slice());
+    let used = run_with(
+        alloc,
+        "tspc solve a b c --budget 0",
+        SQUARE,
+        &Faults {
+            bad_slots: &bad,
+            ..NONE
+        },
+    )?;
+    assert_eq!(rt; used.status, Status::StoreFault);
+    assert_eq!(rt; used.text(), b"".as_slice());
+    let whole = solved(alloc, "tspc solve a b c --budget 0", SQUARE)?;
+    for k in 0..whole.slots.entries().len() {
+        let one = [(SlotCall::Any, k as u64 + 1)];
+        let ended = run_with(
+            alloc,
+            "tspc solve a b c --budget 0",
+            SQUARE,
+            &Faults {
+                bad_slots: &one,
+                ..NONE
+            },
+        )?;
+        assert_eq!(rt; ended.status, Status::StoreFault);
+        assert_eq!(rt; ended.text(), b"".as_slice());
+    }
+    Ok(())
+}
+
+/// The next of a sequence of numbers below `most` (Numerical Recipes' linear congruential generator).
+fn next(state: &mut u64, most: u64) -> u64
+    requires { 0 < most }
+    ensures { result < most }
+{
+    *state = (state.wrapping_mul(1_664_525).wrapping_add(1_013_904_223)) % (1 << 32);
+    (*state >> 8) % most
+}
+
+/// A matrix of random distances of five cities: its text and the same as plain numbers.
+fn random_matrix(alloc: Global, state: &mut u64) -> Result<(String, Instance), AllocError> {
+    let mut text = format!(in alloc;
+        "TYPE : TSP\nDIMENSION : 5\nEDGE_WEIGHT_TYPE : EXPLICIT\nEDGE_WEIGHT_FORMAT : UPPER_ROW\nEDGE_WEIGHT_SECTION\n"
+    )?;
+    let mut table = vec![in alloc; 0u32; 25]?;
+    for u in 0..5 {
+        for v in u + 1..5 {
+            let weight = next(state, 1000);
+            text.push_str(&format!(in alloc; "{weight}\n")?)?;
+            if let Some(cell) = table.get_mut(u * 5 + v) {
+                *cell = weight as u32;
+            }
+        }
+    }
+    Ok((text, Instance { n: 5, table }))
+}
+
+#[test]
+fn random_instances_have_the_length_of_the_least_tour(rt: HostRuntime) -> Result<(), Fail> {
+    let alloc = rt.alloc();
+    let mut state = 2026;
+    for _ in 0..5 {
+        let (text, plain) = random_matrix(alloc, &mut state)?;
+        let best = least_tour(alloc, &plain)?.ok_or("no tour")?;
+        let length = tour_length(&plain, &best);
+        let ended = solved(alloc, "tspc solve a b c", &text)?;
+        assert_eq!(rt; ended.status, Status::Optimal);
+        let want = format!(in alloc; "OPTIMAL {length}\nTOUR 1 ")?;
+        assert!(rt; ended.text().starts_with(want.as_bytes()));
+    }
+    Ok(())
+}
+
+#[test]
+fn statuses_have_their_codes(rt: HostRuntime) -> Result<(), Fail> {
+    let codes = [
+        (Status::Optimal, 0),
+        (Status::Usage, 2),
+        (Status::BadInstance, 3),
+        (Status::Stopped, 5),
+        (Status::ReadFault, 6),
+        (Status::WriteFault, 7),
+        (Status::StoreFault, 8),
+        (Status::NoMemory, 9),
+    ];
+    for (status, code) in codes {
+        assert_eq!(rt; status.code(), code);
+    }
+    Ok(())
+}
