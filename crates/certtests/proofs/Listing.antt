@@ -1,12 +1,12 @@
 -- Cities from 0 and from 1, and cuts that are listed.
-use Rattle.std.proofs.Common.{◌≡◌, ℕ, ◌+◌, ◌-◌, ◌<◌, ◌≤◌, Bool, true, false, ◌&&◌, List, [], ◌∷◌, length, map, refl, sym, ap, ◌∙◌, subst, arith, ◌↔◌, IsTrue}
+use Rattle.std.proofs.Common.{◌≡◌, ℕ, ◌+◌, ◌-◌, ◌≤◌, Bool, true, false, ◌&&◌, List, [], ◌∷◌, length, map, refl, sym, ap, ◌∙◌, subst, arith, ◌↔◌, IsTrue}
 use Rattle.std.specs.Prelude.{nat_lt, nat_le}
 use Rattle.std.specs.List.{AllByRecursion}
 use Rattle.std.proofs.lemmas.Bool.{and_parts, leb-true, false_from_ne_true, false≢true}
 use Rattle.tspdef.specs.Sets.{RisesFrom, IsSet, IsProper}
 use Rattle.tspdef.specs.Cuts.{Cut, subtour, comb, IsComb, IsCut}
 use Rattle.certdef.specs.Items.{rises, is_set}
-use Rattle.certdef.specs.Proofs.{Listed, subtour_cut, comb_cut}
+use Rattle.certdef.specs.Proofs.{subtour_cut, comb_cut}
 use Rattle.certdef.specs.Accepted.{from_zero, cut_of, cuts_of}
 use Rattle.certdef.specs.Tests.{is_proper, is_cut}
 use Rattle.verdict.proofs.Decisions.{proper_yes, yes_proper, cut_yes, yes_cut}

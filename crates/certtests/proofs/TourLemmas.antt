@@ -1,5 +1,5 @@
 -- Tours of cities from 1.
-use Rattle.std.proofs.Common.{◌≡◌, ℕ, suc, ◌+◌, ◌-◌, ◌<◌, ◌≤◌, Bool, true, false, ◌&&◌, List, [], ◌∷◌, length, map, get_or, refl, sym, ap, ◌∙◌, subst, arith}
+use Rattle.std.proofs.Common.{◌≡◌, ℕ, suc, ◌-◌, ◌<◌, ◌≤◌, true, false, ◌&&◌, List, [], ◌∷◌, length, get_or, refl, sym, ap, ◌∙◌, subst, arith}
 use Rattle.std.specs.Prelude.{nat_lt, ◌==◌, Option, Some, None}
 use Rattle.std.specs.Option.{is_some, MatchOption}
 use Rattle.std.specs.List.{AllByRecursion}
@@ -7,8 +7,8 @@ use Rattle.std.proofs.lemmas.Bool.{ne_eqb, false_from_ne_true}
 use Rattle.tspdef.specs.Tours.{IsTour, last_city}
 use Rattle.certdef.specs.Accepted.{from_zero}
 use Rattle.certdef.specs.Tests.{is_canonical, is_tour_from_one}
-use Rattle.verdict.proofs.Decisions.{IsTourFromOne, tour_from_one_yes, yes_tour_from_one, canonical_yes, yes_canonical}
-use Rattle.certtests.specs.Places.{IsFromOne, AreFromOne}
+use Rattle.verdict.proofs.Decisions.{tour_from_one_yes, yes_tour_from_one, canonical_yes, yes_canonical}
+use Rattle.certtests.specs.Places.{AreFromOne}
 
 -- ---- canonical lists, by their places
 
