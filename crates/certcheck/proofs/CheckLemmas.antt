@@ -1,8 +1,8 @@
 -- What becomes of a desk's proof that is read piece by piece.
-use Rattle.std.proofs.Common.{◌≡◌, ℕ, ◌-◌, ◌+◌, ◌<◌, ◌≤◌, ◌^◌, List, [], ◌∷◌, ◌++◌, length, refl, sym, ap, subst, ◌∙◌, arith, Option, Some, None, Result, Ok, Err, Bool, true, false}
+use Rattle.std.proofs.Common.{◌≡◌, ℕ, ◌+◌, ◌<◌, ◌^◌, List, [], ◌∷◌, ◌++◌, length, refl, sym, ap, subst, ◌∙◌, arith, Option, Some, None, Result, Ok, Err, Bool, true, false}
 use Rattle.std.specs.Prelude.{IfOk, ◌↔◌, ◌==◌, nat_le, nat_lt, if◌then◌else◌}
 use Rattle.ports.specs.Outside.{BothTell, WhereTold}
-use Rattle.ports.specs.Desk.{Told, Takes, TakesFirst, TakesAll, IsAtEnd, left, with_left}
+use Rattle.ports.specs.Desk.{Told, Takes, TakesAll, IsAtEnd, left}
 use Rattle.ports.specs.declared.desk.Inlet.TheVariants as inlet
 use Rattle.ports.proofs.Transfers.{takes_more, takes_all}
 use Rattle.tspdef.specs.Instances.{Instance}
@@ -12,7 +12,7 @@ use Rattle.certdef.specs.Laws.{YesIsAcceptedText}
 use Rattle.certdef.specs.Tests.{Tests, verifier}
 use Rattle.certdef.specs.Verdicts.{Verdict, yes, no, Outcome, go, refused, is_end, line_step}
 use Rattle.certdef.specs.Bytes.{Reading, Read, reads, stops, start, line_on, byte_on, bytes_on, end_of, verdict, verdict_at_end}
-use Rattle.certcheck.specs.Answers.{verdict_of, IsYes, Tells}
+use Rattle.certcheck.specs.Answers.{verdict_of, Tells}
 use Rattle.certcheck.specs.declared.answer.Answer.{Answer}
 use Rattle.certcheck.specs.declared.answer.Answer.TheVariants as answers
 use Rattle.certcheck.specs.Readings.{Reads}
@@ -47,6 +47,7 @@ pub refusal_judged : (i : Instance) (c b : List ℕ) (r : Reading) (k at : ℕ) 
 refusal_judged i c b r k at t u v x y h e = told t v (takes_more inlet.Proof c b (c ++ b) t u v x y refl) where
   both : bytes_on (verifier i) (reads start) (c ++ b) ≡ stops k at
   both = in_turn (verifier i) (reads start) c b (c ++ b) (reads r) refl h ∙ e
+
   told : (t v : Option Told) → BothTell (Takes inlet.Proof (c ++ b)) t v → WhereTold (λ t. no k at ≡ verdict i t.proof_in) t
   told None v z = tt
   told (Some t) None z = absurd z
@@ -99,9 +100,9 @@ grows_byte j r b =
     (grows_if (r.read + 1) (is_end r.stage) _ _ (grows_not (r.read + 1) 9 r.at)
     (grows_if (r.read + 1) (b == 10) _ _ (grows_line r.at r.read (line_step j r.at r.stage (item_of j.n r.begun)))
     (grows_if (r.read + 1) (nat_lt (length r.begun) longest) _ _ (λ q e. ap read_of (sym e)) (grows_not (r.read + 1) 1 r.at)))) where
-  read_of : Read → ℕ
-  read_of (reads r) = r.read
-  read_of (stops k at) = 0
+      read_of : Read → ℕ
+      read_of (reads r) = r.read
+      read_of (stops k at) = 0
 
 grows_from : (x : Read) (j : Tests) (bs : List ℕ) (n : ℕ) → Grows n x → Grows (n + length bs) (bytes_on j x bs)
 grows_from (stops k at) j bs n h q e = cc

@@ -1,9 +1,6 @@
 -- What is still to come, as a path grows and shrinks.
-use Rattle.std.proofs.Common.{◌≡◌, ℕ, List, [], ◌∷◌, ◌++◌, Option, Some, None, refl, sym, ap, subst, ◌∙◌, append_assoc}
-use Rattle.std.specs.Option.{option_map}
+use Rattle.std.proofs.Common.{◌≡◌, ℕ, List, [], ◌∷◌, ◌++◌, Some, None, refl, sym, ap, subst, ◌∙◌, append_assoc}
 use Rattle.tspdef.specs.Paths.{Condition, absent, present, two, four, MayFollow, ContinuesPath, IsPath}
-use Rattle.branchx.specs.Cond.{condition_of}
-use Rattle.branchx.specs.declared.cond.Cond.{Cond}
 use Rattle.certcheck.specs.Paths.{second, sibling, later_below, later}
 
 -- one condition more
@@ -12,6 +9,7 @@ later_below-push p [] c = ap (λ q. sibling q (second c)) (sym (nothing p)) ∙ 
   nothing : (xs : List Condition) → xs ++ [] ≡ xs
   nothing [] = refl
   nothing (x ∷ xs) = ap (λ ys. x ∷ ys) (nothing xs)
+
   none : (xs : List (List Condition)) → xs ++ [] ≡ xs
   none [] = refl
   none (x ∷ xs) = ap (λ ys. x ∷ ys) (none xs)

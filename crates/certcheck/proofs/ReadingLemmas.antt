@@ -1,12 +1,12 @@
 -- Bytes taken together as one by one.
-use Rattle.std.proofs.Common.{◌≡◌, ◌≢◌, ℕ, zero, suc, ◌+◌, ◌-◌, ◌<◌, ◌≤◌, Bool, true, false, List, [], ◌∷◌, ◌++◌, length, refl, sym, ap, subst, ◌∙◌, append_assoc, length-append, arith, Result, Ok, Err, IsErrAnd, take, drop}
+use Rattle.std.proofs.Common.{◌≡◌, ◌≢◌, ℕ, zero, suc, ◌+◌, ◌-◌, ◌<◌, ◌≤◌, true, false, List, [], ◌∷◌, ◌++◌, length, refl, sym, ap, subst, ◌∙◌, append_assoc, length-append, arith, Result, Ok, Err, IsErrAnd, take, drop}
 use Rattle.std.specs.Prelude.{nat_le, nat_lt, ◌==◌, slice_index}
 use Rattle.std.proofs.lemmas.Bool.Decides.{nat_tests}
 use Rattle.std.proofs.lemmas.List.{take_all, length-drop}
 use Rattle.certdef.specs.Items.{item_of, longest}
 use Rattle.certdef.specs.Accepted.{most_bytes}
 use Rattle.certdef.specs.Tests.{Tests}
-use Rattle.certdef.specs.Verdicts.{Stage, Outcome, is_end, line_step}
+use Rattle.certdef.specs.Verdicts.{Stage, Outcome, line_step}
 use Rattle.certdef.specs.Bytes.{Reading, Read, reads, stops, byte_on, bytes_on, line_on}
 use Rattle.verdict.proofs.Bytes.{reads_in_pieces}
 use Rattle.certcheck.specs.Readings.{HasNoLineEnd, HasRoom, Reads}
@@ -21,12 +21,14 @@ one_on : (j : Tests) (r : Reading) (b : ℕ) (more : ℕ) → b ≢ 10 → HasRo
     → byte_on j r b ≡ reads (record { at = r.at; read = r.read + 1; stage = r.stage; begun = r.begun ++ b ∷ [] })
 one_on j r b more e h =
     rw (most, h.goes_on, no_end, room) refl where
-  most : nat_le most_bytes r.read ≡ false
-  most = let t = h.text in grind (arith, nat_tests)
-  no_end : (b == 10) ≡ false
-  no_end = grind (arith, nat_tests)
-  room : nat_lt (length r.begun) longest ≡ true
-  room = let t = h.line in grind (arith, nat_tests)
+      most : nat_le most_bytes r.read ≡ false
+      most = let t = h.text in grind (arith, nat_tests)
+
+      no_end : (b == 10) ≡ false
+      no_end = grind (arith, nat_tests)
+
+      room : nat_lt (length r.begun) longest ≡ true
+      room = let t = h.line in grind (arith, nat_tests)
 
 -- what is left of a list of bytes without a line end has none
 shift : (b : ℕ) (bs : List ℕ) → HasNoLineEnd (b ∷ bs) → HasNoLineEnd bs

@@ -1,5 +1,5 @@
 -- Steps of a verifier, of what the code found.
-use Rattle.std.proofs.Common.{◌≡◌, ℕ, zero, suc, ◌-◌, ◌+◌, true, false, cond, List, [], ◌∷◌, ◌++◌, ℤ, sym, ap, subst, ◌∙◌, refl}
+use Rattle.std.proofs.Common.{◌≡◌, ℕ, suc, ◌-◌, true, false, List, [], ◌∷◌, ◌++◌, ℤ, sym, ap, subst, ◌∙◌}
 use Rattle.std.specs.Prelude.{nat_le}
 use Rattle.std.specs.List.{AllByRecursion}
 use Rattle.std.proofs.lemmas.Bool.{cond-true, cond-false}
@@ -7,7 +7,7 @@ use Rattle.tspdef.specs.Paths.{Condition, absent, present, two, four}
 use Rattle.certdef.specs.Items.{edge_line, clique_line, city_line}
 use Rattle.certdef.specs.Accepted.{from_zero}
 use Rattle.certdef.specs.Tests.{Tests}
-use Rattle.certdef.specs.Verdicts.{Head, OpenDuals, Outcome, go, refused, wants_trees, after, duals_on, with_city, on_tree, on_dual}
+use Rattle.certdef.specs.Verdicts.{Head, OpenDuals, go, refused, wants_trees, after, duals_on, with_city, on_tree, on_dual}
 use Rattle.certcheck.specs.Paths.{later}
 use Rattle.certcheck.proofs.PathLemmas.{later-push}
 

@@ -1,5 +1,5 @@
 -- What the verifier answers.
-use Rattle.std.specs.Prelude.{◌≡◌, ℕ, Result, Ok, Err}
+use Rattle.std.specs.Prelude.{◌≡◌, Result, Ok, Err}
 use Rattle.certdef.specs.Verdicts.{Verdict, yes, no}
 use Rattle.certcheck.specs.declared.answer.Answer.{Answer}
 use Rattle.certcheck.specs.declared.answer.Answer.TheVariants as answers

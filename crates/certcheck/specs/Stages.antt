@@ -2,7 +2,6 @@
 use Rattle.std.specs.Prelude.{◌≡◌, ℕ, List, [], ◌∷◌, length, map, Option, Some, None, Result, Ok, Err}
 use Rattle.std.specs.List.{AllByRecursion}
 use Rattle.tspdef.specs.Cuts.{IsCut}
-use Rattle.tspdef.specs.Paths.{Condition}
 use Rattle.cyc.specs.CitySet.{Members}
 use Rattle.certdef.specs.Proofs.{Duals}
 use Rattle.certdef.specs.Verdicts as spec

@@ -16,3 +16,5 @@ mod trees;
 pub use answer::{Answer, CheckError};
 pub use checking::check;
 
+#[cfg(test)]
+mod tests;

@@ -74,7 +74,12 @@ impl Progress {
     }
 
     /// Takes the first line.
-    pub(crate) fn on_title(&mut self, instance: &Instance, at: u64, item: Item) -> Result<(), Trouble>
+    pub(crate) fn on_title(
+        &mut self,
+        instance: &Instance,
+        at: u64,
+        item: Item,
+    ) -> Result<(), Trouble>
         requires { IsOf instance.now.n self.old }
         ensures { Goes instance.now.n result self.new (spec.on_title at (said item)) }
     {
@@ -86,7 +91,12 @@ impl Progress {
     }
 
     /// Takes a line where the number of cities is wanted.
-    pub(crate) fn on_size(&mut self, instance: &Instance, at: u64, item: Item) -> Result<(), Trouble>
+    pub(crate) fn on_size(
+        &mut self,
+        instance: &Instance,
+        at: u64,
+        item: Item,
+    ) -> Result<(), Trouble>
         requires { IsOf instance.now.n self.old }
         ensures { Goes instance.now.n result self.new (spec.on_size (verifier instance.now) at (said item)) }
     {
@@ -101,7 +111,12 @@ impl Progress {
     }
 
     /// Takes a line where the length is wanted.
-    pub(crate) fn on_length(&mut self, instance: &Instance, at: u64, item: Item) -> Result<(), Trouble>
+    pub(crate) fn on_length(
+        &mut self,
+        instance: &Instance,
+        at: u64,
+        item: Item,
+    ) -> Result<(), Trouble>
         requires { IsOf instance.now.n self.old }
         ensures { Goes instance.now.n result self.new (spec.on_length at (said item)) }
     {
@@ -114,7 +129,13 @@ impl Progress {
     }
 
     /// Takes a line where the tour is wanted.
-    pub(crate) fn on_tour(&mut self, alloc: Global, instance: &Instance, at: u64, item: Item) -> Result<(), Trouble>
+    pub(crate) fn on_tour(
+        &mut self,
+        alloc: Global,
+        instance: &Instance,
+        at: u64,
+        item: Item,
+    ) -> Result<(), Trouble>
         requires { IsOf instance.now.n self.old }
         ensures { Goes instance.now.n result self.new (spec.on_tour (verifier instance.now) self.old.long at (said item)) }
     {
@@ -132,7 +153,13 @@ impl Progress {
     }
 
     /// Takes a line where the number of cuts is wanted.
-    pub(crate) fn on_count(&mut self, alloc: Global, instance: &Instance, at: u64, item: Item) -> Result<(), Trouble>
+    pub(crate) fn on_count(
+        &mut self,
+        alloc: Global,
+        instance: &Instance,
+        at: u64,
+        item: Item,
+    ) -> Result<(), Trouble>
         requires { IsOf instance.now.n self.old }
         ensures { Goes instance.now.n result self.new (spec.on_count self.old.long at (said item)) }
     {
@@ -169,7 +196,14 @@ impl Progress {
     }
 
     /// Takes a line where a cut is wanted.
-    pub(crate) fn on_cut(&mut self, alloc: Global, instance: &Instance, left: u32, at: u64, item: Item) -> Result<(), Trouble>
+    pub(crate) fn on_cut(
+        &mut self,
+        alloc: Global,
+        instance: &Instance,
+        left: u32,
+        at: u64,
+        item: Item,
+    ) -> Result<(), Trouble>
         requires of { IsOf instance.now.n self.old }
         requires fits { fits instance.now.n (said item) ≡ true }
         ensures { Goes instance.now.n result self.new (spec.on_cut (verifier instance.now) (head self.old) left at (said item)) }
@@ -237,7 +271,14 @@ impl Progress {
     }
 
     /// Goes on with the teeth of a comb that are left, or ends the comb.
-    fn teeth_on(&mut self, alloc: Global, n: u32, from: u64, left: u32, more: u32) -> Result<(), Trouble>
+    fn teeth_on(
+        &mut self,
+        alloc: Global,
+        n: u32,
+        from: u64,
+        left: u32,
+        more: u32,
+    ) -> Result<(), Trouble>
         requires of { IsOf n self.old }
         requires handle { IsHandle n self.old.handle }
         ensures { (i : instances.Instance) → i.n ≡ n → Goes n result self.new (spec.teeth_on (verifier i) from (head self.old) left more (handle_of self.old.handle) (teeth_of self.old.teeth.items)) }

@@ -48,7 +48,8 @@ impl Reading {
         requires stands { Stands instance.now.n self.old.progress }
         ensures { Reads instance.now.n result self.new (line_on self.old.count.at self.old.count.read (spec.line_step (verifier instance.now) self.old.count.at (stage_of self.old.progress) (item_of instance.now.n self.old.begun.items))) }
     {
-        self.progress.line(alloc, instance, self.count.at(), &self.begun)?;
+        self.progress
+            .line(alloc, instance, self.count.at(), &self.begun)?;
         self.count = self.count.with_line_end();
         self.begun.clear();
         Ok(())
@@ -91,7 +92,12 @@ impl Reading {
     }
 
     /// Takes bytes one by one.
-    fn one_by_one(&mut self, alloc: Global, instance: &Instance, bytes: &[u8]) -> Result<(), Trouble>
+    fn one_by_one(
+        &mut self,
+        alloc: Global,
+        instance: &Instance,
+        bytes: &[u8],
+    ) -> Result<(), Trouble>
         requires { Stands instance.now.n self.old.progress }
         ensures { Reads instance.now.n result self.new (bytes_on (verifier instance.now) (reads (reading_of self.old)) bytes.now) }
     {
@@ -123,11 +129,18 @@ impl Reading {
         if let Stage::End = self.progress.stage {
             return false;
         }
-        more <= LONGEST && self.begun.len() <= LONGEST - more && self.count.read() < MOST - LONGEST as u64
+        more <= LONGEST
+            && self.begun.len() <= LONGEST - more
+            && self.count.read() < MOST - LONGEST as u64
     }
 
     /// Takes the next piece of the text. O(1) for each of its bytes, beside what the lines cost.
-    pub(crate) fn feed(&mut self, alloc: Global, instance: &Instance, piece: &[u8]) -> Result<(), Trouble>
+    pub(crate) fn feed(
+        &mut self,
+        alloc: Global,
+        instance: &Instance,
+        piece: &[u8],
+    ) -> Result<(), Trouble>
         requires { Stands instance.now.n self.old.progress }
         ensures { Reads instance.now.n result self.new (bytes_on (verifier instance.now) (reads (reading_of self.old)) piece.now) }
     {

@@ -22,7 +22,13 @@ use tspinst::Instance;
 
 impl Progress {
     /// Takes a line where a tree is wanted.
-    fn on_tree(&mut self, alloc: Global, instance: &Instance, at: u64, item: Item) -> Result<(), Trouble>
+    fn on_tree(
+        &mut self,
+        alloc: Global,
+        instance: &Instance,
+        at: u64,
+        item: Item,
+    ) -> Result<(), Trouble>
         requires of { IsOf instance.now.n self.old }
         requires fits { fits instance.now.n (said item) ≡ true }
         ensures { Goes instance.now.n result self.new (spec.on_tree (verifier instance.now) (head self.old) self.old.path.conditions (later self.old.path.conditions) at (said item)) }
@@ -59,7 +65,13 @@ impl Progress {
     }
 
     /// Splits the node by a set.
-    fn on_clique(&mut self, alloc: Global, instance: &Instance, at: u64, set: Vec<u32>) -> Result<(), Trouble>
+    fn on_clique(
+        &mut self,
+        alloc: Global,
+        instance: &Instance,
+        at: u64,
+        set: Vec<u32>,
+    ) -> Result<(), Trouble>
         requires of { IsOf instance.now.n self.old }
         requires set { is_set instance.now.n set.items ≡ true }
         ensures { Goes instance.now.n result self.new (spec.on_tree (verifier instance.now) (head self.old) self.old.path.conditions (later self.old.path.conditions) at (clique_line set.items)) }
@@ -74,7 +86,15 @@ impl Progress {
     }
 
     /// Goes on with the duals of a leaf that are left, or closes the leaf.
-    fn duals_on(&mut self, alloc: Global, instance: &Instance, from: u64, a: u32, b: u32, c: u32) -> Result<(), Trouble>
+    fn duals_on(
+        &mut self,
+        alloc: Global,
+        instance: &Instance,
+        from: u64,
+        a: u32,
+        b: u32,
+        c: u32,
+    ) -> Result<(), Trouble>
         requires of { IsOf instance.now.n self.old }
         requires duals { AreDuals (length self.old.cuts.items) self.old.path.conditions b c (duals self.old) }
         ensures { Goes instance.now.n result self.new (spec.duals_on (verifier instance.now) (head self.old) (later self.old.path.conditions) (open_duals self.old from) a b c) }
@@ -227,7 +247,13 @@ impl Progress {
     }
 
     /// Takes the item of line `at`.
-    fn step(&mut self, alloc: Global, instance: &Instance, at: u64, item: Item) -> Result<(), Trouble>
+    fn step(
+        &mut self,
+        alloc: Global,
+        instance: &Instance,
+        at: u64,
+        item: Item,
+    ) -> Result<(), Trouble>
         requires stands { Stands instance.now.n self.old }
         requires fits { fits instance.now.n (said item) ≡ true }
         ensures { Goes instance.now.n result self.new (spec.step (verifier instance.now) at (stage_of self.old) (said item)) }
@@ -254,7 +280,13 @@ impl Progress {
     }
 
     /// Takes the bytes of line `at`, without its line feed.
-    pub(crate) fn line(&mut self, alloc: Global, instance: &Instance, at: u64, bytes: &[u8]) -> Result<(), Trouble>
+    pub(crate) fn line(
+        &mut self,
+        alloc: Global,
+        instance: &Instance,
+        at: u64,
+        bytes: &[u8],
+    ) -> Result<(), Trouble>
         requires { Stands instance.now.n self.old }
         ensures { Goes instance.now.n result self.new (spec.line_step (verifier instance.now) at (stage_of self.old) (item_of instance.now.n bytes.now)) }
     {

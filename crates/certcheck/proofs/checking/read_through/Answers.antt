@@ -1,9 +1,9 @@
-use Rattle.std.proofs.Common.{◌≡◌, ◌+◌, ◌-◌, ◌++◌, ◌^◌, length, take, refl, sym, ap, ◌∙◌, arith}
+use Rattle.std.proofs.Common.{◌+◌, ◌++◌, length, take, refl, ◌∙◌, arith}
 use Rattle.std.proofs.lemmas.List.{length-take}
 use Rattle.ports.specs.declared.desk.Inlet.TheVariants as inlet
 use Rattle.ports.proofs.Transfers.{takes_more, takes_then_stops, takes_once_more}
 use Rattle.certdef.specs.Tests.{verifier}
-use Rattle.certdef.specs.Bytes.{start, reads, bytes_on}
+use Rattle.certdef.specs.Bytes.{start, reads}
 use Rattle.certcheck.specs.Readings.{reading_of}
 use Rattle.certcheck.proofs.ReadingLemmas.{in_turn}
 use Rattle.certcheck.proofs.CheckLemmas.{refusal_told, read_grows}

@@ -1,9 +1,7 @@
-use Rattle.std.proofs.Common.{◌≡◌, ◌∷◌, sym, ap, ◌∙◌, Option, None}
-use Rattle.std.specs.Option.{option_map}
+use Rattle.std.proofs.Common.{◌∷◌, sym, ap, ◌∙◌}
 use Rattle.branchx.specs.Cond.{condition_of}
 use Rattle.branchx.specs.Path.{Conditions}
-use Rattle.branchx.specs.declared.cond.Cond.{Cond}
-use Rattle.certcheck.specs.Paths.{second, later}
+use Rattle.certcheck.specs.Paths.{later}
 use Rattle.certcheck.proofs.PathLemmas.{second_follows, goes_on, goes_up}
 use Rattle.certcheck.proofs.path.next_child.Goals as goal
 
@@ -20,8 +18,9 @@ returns-in-Some-second_of-clause-more c = λ yes.
     ∙ c.loop-last.invariant.0))
 
 pub loop-last-preserved : goal.loop-last-preserved
-loop-last-preserved c =
-    (sym (goes_up c.take_last.new.path.conditions (condition_of c.in-Some.last) (sym c.in_default-second_of.ensures))
-    ∙ (ap (λ (p : Conditions). later p.conditions) (sym c.in-Some.ensures.last)
-    ∙ c.loop-last.invariant.0),
-    c.take_last.ensures.same ∙ c.loop-last.invariant.1)
+loop-last-preserved c = (
+  sym (goes_up c.take_last.new.path.conditions (condition_of c.in-Some.last) (sym c.in_default-second_of.ensures))
+      ∙ (ap (λ (p : Conditions). later p.conditions) (sym c.in-Some.ensures.last)
+      ∙ c.loop-last.invariant.0),
+  c.take_last.ensures.same ∙ c.loop-last.invariant.1,
+)

@@ -1,4 +1,4 @@
-use Rattle.std.proofs.Common.{◌≡◌, refl, sym, ◌∙◌, ap, [], ◌∷◌, ◌++◌, ◌-◌, length, take, drop}
+use Rattle.std.proofs.Common.{refl, sym, ◌∙◌, [], ◌∷◌, ◌++◌, ◌-◌, length, take, drop}
 use Rattle.std.specs.Prelude.{slice_index}
 use Rattle.certdef.specs.Tests.{verifier}
 use Rattle.certdef.specs.Bytes.{reads, bytes_on}

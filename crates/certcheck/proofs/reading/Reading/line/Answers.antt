@@ -4,7 +4,7 @@ use Rattle.certdef.specs.Tests.{verifier}
 use Rattle.certdef.specs.Verdicts.{line_step}
 use Rattle.certdef.specs.Bytes.{reads, bytes_on, byte_on, line_on}
 use Rattle.certcheck.specs.Stages.{stage_of}
-use Rattle.certcheck.specs.Readings.{reading_of, Reads}
+use Rattle.certcheck.specs.Readings.{reading_of}
 use Rattle.certcheck.proofs.ReadingLemmas.{refused_on, line_refused, in_turn, line_whole, same_place, done, empty_list}
 use Rattle.std.proofs.lemmas.Bool.Decides.{nat_tests}
 use Rattle.certcheck.proofs.reading.Reading.line.Goals as goal
@@ -37,8 +37,10 @@ pub returns : goal.returns
 returns c =
     let i = c.args.instance.now in
     let s = c.args.self.now in
-    let empty : s.begun.items ≡ [] = empty_list s.begun.items (grind (arith, nat_tests)) in
-    (line_whole (verifier i) (reading_of s) c.args.run.now empty c.requires.no_end (c.has_room.ensures c.if-not-has_room.false)
-    ∙ (ap (λ at. line_on s.count.at (s.count.read + length c.args.run.now) (line_step (verifier i) at (stage_of s.progress) (item_of i.n c.args.run.now))) (sym c.at.ensures)
-    ∙ (ap (line_on s.count.at (s.count.read + length c.args.run.now)) c.in_ok-line.ensures.0
-    ∙ same_place (stage_of c.line.new.self) (sym (c.with_line_end-self.ensures.at ∙ ap (λ k. k + 1) c.with_bytes.ensures.at)) (sym (c.with_line_end-self.ensures.read ∙ ap (λ k. k + 1) c.with_bytes.ensures.read)) (sym empty))), c.in_ok-line.ensures.1)
+    let empty : s.begun.items ≡ [] = empty_list s.begun.items (grind (arith, nat_tests)) in (
+      line_whole (verifier i) (reading_of s) c.args.run.now empty c.requires.no_end (c.has_room.ensures c.if-not-has_room.false)
+          ∙ (ap (λ at. line_on s.count.at (s.count.read + length c.args.run.now) (line_step (verifier i) at (stage_of s.progress) (item_of i.n c.args.run.now))) (sym c.at.ensures)
+          ∙ (ap (line_on s.count.at (s.count.read + length c.args.run.now)) c.in_ok-line.ensures.0
+          ∙ same_place (stage_of c.line.new.self) (sym (c.with_line_end-self.ensures.at ∙ ap (λ k. k + 1) c.with_bytes.ensures.at)) (sym (c.with_line_end-self.ensures.read ∙ ap (λ k. k + 1) c.with_bytes.ensures.read)) (sym empty))),
+      c.in_ok-line.ensures.1,
+    )
