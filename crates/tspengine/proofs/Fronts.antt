@@ -6,7 +6,7 @@ use Rattle.ports.specs.declared.desk.Outlet.TheVariants as outlet
 use Rattle.tspengine.specs.Transfers.{TakesFronts, PublishesFronts}
 use Rattle.tspengine.specs.Texts.{usage_text}
 use Rattle.tspengine.specs.Runs.{IsTornUsage}
-use Rattle.tspengine.proofs.Tells.{both_to, both_then}
+use Rattle.verification.proofs.Tells.{both_to, both_then}
 
 -- nothing behind what an outlet has taken
 nothing : (xs : List ℕ) → xs ≡ xs ++ []

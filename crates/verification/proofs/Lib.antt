@@ -1,4 +1,4 @@
 pub mod Tells
 mod Judged
 mod Ends
-mod Outcomes
+pub mod Outcomes
