@@ -10,3 +10,4 @@ pub mod RowLemmas
 pub mod RingLemmas
 pub mod DegreeLemmas
 pub mod UnusedLemmas
+pub mod RoundLemmas

@@ -2,3 +2,4 @@ pub mod Sizes
 pub mod Trails
 pub mod Prices
 pub mod Rays
+pub mod Rounds

@@ -11,6 +11,7 @@ mod fitting;
 mod holding;
 mod numbers;
 mod rays;
+mod rounding;
 mod rows;
 mod spread;
 #[cfg(test)]
@@ -21,4 +22,5 @@ pub use bounds::{bound, bound_on, needed};
 pub use closing::{Closing, Report};
 pub use fitting::{Fit, fits, fits_on};
 pub use rays::ray;
+pub use rounding::round;
 pub use trail::{Step, Trail};

@@ -3,7 +3,7 @@
 ghost use Rattle.std.specs.Prelude.{◌≡◌, ℕ, ◌^◌, ◌<◌, ◌≤◌, false, true, IsTrue, IfOk};
 ghost use Rattle.tspdef.specs.Paths.{DecidesAll, is_decided, is_present};
 
-use crate::{Closing, Fit, Report, bound, fits, needed, ray};
+use crate::{Closing, Fit, Report, bound, fits, needed, ray, round};
 use branchx::{Branch, Cond, Path, decided};
 use cutform::Cut;
 use cyc::CitySet;
@@ -16,6 +16,17 @@ use tspinst::{Instance, from_points};
 /// Points (0, 0), (3, 0), (0, 4).
 fn triangle(alloc: Global) -> Result<Instance, Fail> {
     let points = [Point::new(0, 0), Point::new(3, 0), Point::new(0, 4)];
+    Ok(from_points(alloc, Kind::Euc, &points)?)
+}
+
+/// A square of side 10.
+fn square(alloc: Global) -> Result<Instance, Fail> {
+    let points = [
+        Point::new(0, 0),
+        Point::new(10, 0),
+        Point::new(10, 10),
+        Point::new(0, 10),
+    ];
     Ok(from_points(alloc, Kind::Euc, &points)?)
 }
 
@@ -270,6 +281,118 @@ fn too_many_cuts_are_a_misfit(rt: HostRuntime) -> Result<(), Fail> {
     }
     let closing = closing_with(alloc, cuts, &[])?;
     assert_eq!(rt; fits(&instance, &path, &closing), Fit::Misfit(1));
+    Ok(())
+}
+
+/// The closing of duals of cities alone.
+fn round_cities(alloc: Global, n: u32, city: &[i128]) -> Result<Closing, Fail> {
+    Ok(round(alloc, n, city, Vec::new(alloc), Vec::new(alloc))?)
+}
+
+#[test]
+fn rounded_duals_of_a_square_close_it(rt: HostRuntime) -> Result<(), Fail> {
+    let alloc = rt.alloc();
+    let instance = square(alloc)?;
+    let path = Path::new(alloc, 4);
+    // a few units below half a side, as a linear program leaves them
+    let city = [5_242_880, 5_242_879, 5_242_880, 5_242_878];
+    let closing = round_cities(alloc, 4, &city)?;
+    assert_eq!(rt; bound_of(&rt, &instance, &path, &closing), 41_943_034);
+    assert!(rt; 41_943_034 >= needed(40) + 1);
+    assert_eq!(rt; needed(40) + 1, 40_894_465);
+    Ok(())
+}
+
+#[test]
+fn rounding_cuts_large_city_duals(rt: HostRuntime) -> Result<(), Fail> {
+    let alloc = rt.alloc();
+    let most = 1i64 << 62;
+    for (dual, want) in [
+        (i128::MIN, -most),
+        (-(1 << 64), -most),
+        (-(1 << 62) - 1, -most),
+        (-(1 << 62), -most),
+        (-7, -7),
+        (0, 0),
+        ((1 << 62) - 1, most - 1),
+        (1 << 62, most),
+        ((1 << 62) + 1, most),
+        (1 << 64, most),
+        (i128::MAX, most),
+    ] {
+        let closing = round_cities(alloc, 1, &[dual])?;
+        assert_eq!(rt; closing.city(), [want].as_slice());
+    }
+    Ok(())
+}
+
+#[test]
+fn rounding_gives_each_city_a_dual(rt: HostRuntime) -> Result<(), Fail> {
+    let alloc = rt.alloc();
+    let city = [4, -5, 6];
+    let same = round_cities(alloc, 3, &city)?;
+    assert_eq!(rt; same.city(), [4, -5, 6].as_slice());
+    let many = round_cities(alloc, 2, &city)?;
+    assert_eq!(rt; many.city(), [4, -5].as_slice());
+    let few = round_cities(alloc, 5, &city)?;
+    assert_eq!(rt; few.city(), [4, -5, 6, 0, 0].as_slice());
+    Ok(())
+}
+
+#[test]
+fn rounding_keeps_positive_duals_of_sets(rt: HostRuntime) -> Result<(), Fail> {
+    let alloc = rt.alloc();
+    let large = (1 << 62) + 1;
+    let mut cuts = Vec::new(alloc);
+    for (cities, dual) in [
+        ([0, 4], 0),
+        ([0, 2], 7),
+        ([0, 3], -1),
+        ([1, 2], large),
+        ([1, 3], i128::MIN),
+        ([0, 1], 1 << 62),
+    ] {
+        cuts.push((subtour(alloc, 6, &cities)?, dual))?;
+    }
+    let conds = [(3, 0), (9, large), (2, -1), (1, i128::MAX), (4, 1)];
+    let closing = round(alloc, 6, &[], cuts, Vec::from_slice(alloc, &conds)?)?;
+    let mut want = Vec::new(alloc);
+    for (cities, dual) in [([0, 2], 7), ([1, 2], 1 << 62), ([0, 1], 1 << 62)] {
+        want.push((subtour(alloc, 6, &cities)?, dual))?;
+    }
+    assert!(rt; closing.cuts() == want.as_slice());
+    assert_eq!(rt;
+        closing.conds(),
+        [(9, 1 << 62), (1, 1 << 62), (4, 1)].as_slice()
+    );
+    Ok(())
+}
+
+#[test]
+fn rounding_keeps_the_first_4096_duals_of_sets(rt: HostRuntime) -> Result<(), Fail> {
+    let alloc = rt.alloc();
+    let cut = subtour(alloc, 6, &[0, 1])?;
+    let mut cuts = Vec::new(alloc);
+    let mut conds = Vec::new(alloc);
+    // what is left out takes no place
+    cuts.push((cut.copy(alloc)?, -1))?;
+    conds.push((4098, 0))?;
+    for k in 1..4098 {
+        cuts.push((cut.copy(alloc)?, i128::from(k)))?;
+        conds.push((k, i128::from(k)))?;
+    }
+    let closing = round(alloc, 6, &[], cuts, conds)?;
+    assert_eq!(rt; closing.cuts().len(), 4096);
+    assert_eq!(rt; closing.cuts()[0].1, 1);
+    assert_eq!(rt; closing.cuts()[4095].1, 4096);
+    assert_eq!(rt; closing.conds().len(), 4096);
+    assert_eq!(rt; closing.conds()[0], (1, 1));
+    assert_eq!(rt; closing.conds()[4095], (4096, 4096));
+    // counts and sizes fit, the cuts do not rise
+    assert_eq!(rt;
+        fits(&two_triangles(alloc)?, &Path::new(alloc, 6), &closing),
+        Fit::Misfit(3)
+    );
     Ok(())
 }
 

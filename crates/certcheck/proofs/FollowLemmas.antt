@@ -1,0 +1,19 @@
+-- Numbers that rise.
+use Rattle.std.proofs.Common.{◌≡◌, ℕ, zero, suc, ◌+◌, ◌-◌, ◌<◌, List, [], ◌∷◌, length, sym, ap, ◌∙◌, Some, arith}
+use Rattle.std.specs.Prelude.{slice_get, nat_le, nat_lt}
+use Rattle.std.proofs.lemmas.Bool.Decides.{nat_tests}
+use Rattle.certdef.specs.Verdicts.{after}
+
+after_last : {X : Type 0} (xs : List (ℕ × X)) (k : ℕ) (v : ℕ × X) → suc k ≡ length xs → Some v ≡ slice_get xs k → after xs ≡ v.0 + 1
+after_last [] k v l e = absurd (omega arith)
+after_last (p ∷ []) zero v l e = let h : v ≡ p = cc in ap (λ r. r.0 + 1) (sym h)
+after_last (p ∷ []) (suc k) v l e = absurd (omega arith)
+after_last (p ∷ q ∷ qs) zero v l e = absurd (omega arith)
+after_last (p ∷ q ∷ qs) (suc k) v l e = after_last (q ∷ qs) k v (omega arith) e
+
+below_is_within : (a b : ℕ) → nat_lt a b ≡ nat_le (a + 1) b
+below_is_within a b = grind (arith, nat_tests)
+
+-- a number above the last may follow
+pub follows : {X : Type 0} (xs : List (ℕ × X)) (v : ℕ × X) (next : ℕ) → 0 < length xs → Some v ≡ slice_get xs (length xs - 1) → nat_lt v.0 next ≡ nat_le (after xs) next
+follows xs v next l e = below_is_within v.0 next ∙ ap (λ r. nat_le r next) (sym (after_last xs (length xs - 1) v (omega arith) e))

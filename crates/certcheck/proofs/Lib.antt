@@ -1,0 +1,5 @@
+pub mod PathLemmas
+pub mod FollowLemmas
+pub mod StepLemmas
+pub mod ReadingLemmas
+pub mod CheckLemmas

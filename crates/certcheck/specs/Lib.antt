@@ -1,0 +1,4 @@
+pub mod Paths
+pub mod Answers
+pub mod Stages
+pub mod Readings

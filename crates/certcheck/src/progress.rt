@@ -1,0 +1,301 @@
+//! The lines before the tree.
+ghost use Rattle.std.specs.Prelude.{◌≡◌, ℕ, true};
+ghost use Rattle.certdef.specs.Items.{fits};
+ghost use Rattle.tspdef.specs.Instances as instances;
+ghost use Rattle.certdef.specs.Tests.{verifier};
+ghost use Rattle.certdef.specs.Verdicts as spec;
+ghost use Rattle.certdef.specs.Verdicts.{wants_title};
+ghost use Rattle.certline.specs.Said.{said};
+ghost use Rattle.tspdef.specs.Cuts.{IsCut};
+ghost use Rattle.certtests.specs.Listed.{listed};
+ghost use Rattle.certcheck.specs.Stages.{head, handle_of, teeth_of, stage_of, IsHandle, IsOf, Stands, Goes};
+
+use crate::answer::Trouble;
+use branchx::Path;
+use certline::Item;
+use certtests::{canonical_tour, city_set, comb, has_length, subtour};
+use cutform::Cut;
+use cyc::CitySet;
+use std::alloc::Global;
+use tspinst::Instance;
+
+/// Which line must come.
+#[derive(Clone, Copy, Debug)]
+pub(crate) enum Stage {
+    Title,
+    Size,
+    Length,
+    Tour,
+    Count,
+    /// A cut, and how many after it.
+    Cut(u32),
+    /// A comb's handle: how many cuts after the comb, the number of its first line, and how many teeth.
+    Handle(u32, u64, u32),
+    /// A comb's tooth, in the same way, and how many teeth after it.
+    Tooth(u32, u64, u32),
+    /// A tree on the path.
+    Tree,
+    End,
+    /// Duals of a leaf: the number of its first line, and how many lines are to come of cities, cuts and conditions.
+    Duals(u64, u32, u32, u32),
+}
+
+/// How far a text has been read: what it said so far, as far as that is still needed.
+#[derive(Debug, Drop)]
+pub(crate) struct Progress {
+    pub(crate) stage: Stage,
+    pub(crate) long: u64,
+    pub(crate) cuts: Vec<Cut>,
+    pub(crate) handle: Option<CitySet>,
+    pub(crate) teeth: Vec<CitySet>,
+    pub(crate) path: Path,
+    pub(crate) cities: Vec<(u32, i64)>,
+    pub(crate) cut_duals: Vec<(u32, u64)>,
+    pub(crate) condition_duals: Vec<(u32, u64)>,
+}
+
+impl Progress {
+    /// Before the first line of a text for n cities.
+    pub(crate) fn new(alloc: Global, n: u32) -> Progress
+        ensures stage { stage_of result ≡ wants_title }
+        ensures stands { Stands n result }
+    {
+        Progress {
+            stage: Stage::Title,
+            long: 0,
+            cuts: Vec::new(alloc),
+            handle: None,
+            teeth: Vec::new(alloc),
+            path: Path::new(alloc, n),
+            cities: Vec::new(alloc),
+            cut_duals: Vec::new(alloc),
+            condition_duals: Vec::new(alloc),
+        }
+    }
+
+    /// Takes the first line.
+    pub(crate) fn on_title(
+        &mut self,
+        instance: &Instance,
+        at: u64,
+        item: Item,
+    ) -> Result<(), Trouble>
+        requires { IsOf instance.now.n self.old }
+        ensures { Goes instance.now.n result self.new (spec.on_title at (said item)) }
+    {
+        let Item::Cert = item else {
+            return Err(Trouble::Refused(1, at));
+        };
+        self.stage = Stage::Size;
+        Ok(())
+    }
+
+    /// Takes a line where the number of cities is wanted.
+    pub(crate) fn on_size(
+        &mut self,
+        instance: &Instance,
+        at: u64,
+        item: Item,
+    ) -> Result<(), Trouble>
+        requires { IsOf instance.now.n self.old }
+        ensures { Goes instance.now.n result self.new (spec.on_size (verifier instance.now) at (said item)) }
+    {
+        let Item::N(cities) = item else {
+            return Err(Trouble::Refused(1, at));
+        };
+        if cities != instance.n() {
+            return Err(Trouble::Refused(2, at));
+        }
+        self.stage = Stage::Length;
+        Ok(())
+    }
+
+    /// Takes a line where the length is wanted.
+    pub(crate) fn on_length(
+        &mut self,
+        instance: &Instance,
+        at: u64,
+        item: Item,
+    ) -> Result<(), Trouble>
+        requires { IsOf instance.now.n self.old }
+        ensures { Goes instance.now.n result self.new (spec.on_length at (said item)) }
+    {
+        let Item::Length(long) = item else {
+            return Err(Trouble::Refused(1, at));
+        };
+        self.long = long;
+        self.stage = Stage::Tour;
+        Ok(())
+    }
+
+    /// Takes a line where the tour is wanted.
+    pub(crate) fn on_tour(
+        &mut self,
+        alloc: Global,
+        instance: &Instance,
+        at: u64,
+        item: Item,
+    ) -> Result<(), Trouble>
+        requires { IsOf instance.now.n self.old }
+        ensures { Goes instance.now.n result self.new (spec.on_tour (verifier instance.now) self.old.long at (said item)) }
+    {
+        let Item::Tour(cities) = item else {
+            return Err(Trouble::Refused(1, at));
+        };
+        let Some(tour) = canonical_tour(alloc, instance.n(), &cities)? else {
+            return Err(Trouble::Refused(3, at));
+        };
+        if !has_length(instance, &tour, self.long) {
+            return Err(Trouble::Refused(4, at));
+        }
+        self.stage = Stage::Count;
+        Ok(())
+    }
+
+    /// Takes a line where the number of cuts is wanted.
+    pub(crate) fn on_count(
+        &mut self,
+        alloc: Global,
+        instance: &Instance,
+        at: u64,
+        item: Item,
+    ) -> Result<(), Trouble>
+        requires { IsOf instance.now.n self.old }
+        ensures { Goes instance.now.n result self.new (spec.on_count self.old.long at (said item)) }
+    {
+        let Item::Cuts(many) = item else {
+            return Err(Trouble::Refused(1, at));
+        };
+        self.cuts.clear();
+        self.cuts_on(alloc, many);
+        Ok(())
+    }
+
+    /// Goes on with the cuts that are left, or with the tree.
+    fn cuts_on(&mut self, alloc: Global, left: u32)
+        ensures stage { stage_of self.new ≡ spec.cuts_on (head self.old) left }
+        ensures stands { (n : ℕ) → IsOf n self.old → Stands n self.new }
+    {
+        if left == 0 {
+            self.path = Path::new(alloc, self.path.n());
+            self.stage = Stage::Tree;
+        } else {
+            self.stage = Stage::Cut(left - 1);
+        }
+    }
+
+    /// Adds a cut.
+    fn add(&mut self, alloc: Global, n: u32, left: u32, cut: Cut) -> Result<(), Trouble>
+        requires of { IsOf n self.old }
+        requires cut { IsCut n cut }
+        ensures { Goes n result self.new (spec.go (spec.cuts_on (spec.with_cut (head self.old) (listed cut)) left)) }
+    {
+        self.cuts.push(cut)?;
+        self.cuts_on(alloc, left);
+        Ok(())
+    }
+
+    /// Takes a line where a cut is wanted.
+    pub(crate) fn on_cut(
+        &mut self,
+        alloc: Global,
+        instance: &Instance,
+        left: u32,
+        at: u64,
+        item: Item,
+    ) -> Result<(), Trouble>
+        requires of { IsOf instance.now.n self.old }
+        requires fits { fits instance.now.n (said item) ≡ true }
+        ensures { Goes instance.now.n result self.new (spec.on_cut (verifier instance.now) (head self.old) left at (said item)) }
+    {
+        match item {
+            Item::Subtour(set) => {
+                let set = city_set(alloc, instance.n(), set)?;
+                let Some(cut) = subtour(alloc, set)? else {
+                    return Err(Trouble::Refused(5, at));
+                };
+                self.add(alloc, instance.n(), left, cut)
+            }
+            Item::Comb(teeth) => {
+                self.stage = Stage::Handle(left, at, teeth);
+                Ok(())
+            }
+            _ => Err(Trouble::Refused(1, at)),
+        }
+    }
+
+    /// Takes a line where the handle of a comb is wanted.
+    pub(crate) fn on_handle(
+        &mut self,
+        alloc: Global,
+        instance: &Instance,
+        left: u32,
+        from: u64,
+        teeth: u32,
+        at: u64,
+        item: Item,
+    ) -> Result<(), Trouble>
+        requires of { IsOf instance.now.n self.old }
+        requires fits { fits instance.now.n (said item) ≡ true }
+        ensures { Goes instance.now.n result self.new (spec.on_handle (verifier instance.now) (head self.old) left from teeth at (said item)) }
+    {
+        let Item::Handle(set) = item else {
+            return Err(Trouble::Refused(1, at));
+        };
+        self.handle = Some(city_set(alloc, instance.n(), set)?);
+        self.teeth.clear();
+        self.teeth_on(alloc, instance.n(), from, left, teeth)
+    }
+
+    /// Takes a line where a tooth of a comb is wanted.
+    pub(crate) fn on_tooth(
+        &mut self,
+        alloc: Global,
+        instance: &Instance,
+        left: u32,
+        from: u64,
+        more: u32,
+        at: u64,
+        item: Item,
+    ) -> Result<(), Trouble>
+        requires of { IsOf instance.now.n self.old }
+        requires handle { IsHandle instance.now.n self.old.handle }
+        requires fits { fits instance.now.n (said item) ≡ true }
+        ensures { Goes instance.now.n result self.new (spec.on_tooth (verifier instance.now) (head self.old) left from more (handle_of self.old.handle) (teeth_of self.old.teeth.items) at (said item)) }
+    {
+        let Item::Tooth(set) = item else {
+            return Err(Trouble::Refused(1, at));
+        };
+        self.teeth.push(city_set(alloc, instance.n(), set)?)?;
+        self.teeth_on(alloc, instance.n(), from, left, more)
+    }
+
+    /// Goes on with the teeth of a comb that are left, or ends the comb.
+    fn teeth_on(
+        &mut self,
+        alloc: Global,
+        n: u32,
+        from: u64,
+        left: u32,
+        more: u32,
+    ) -> Result<(), Trouble>
+        requires of { IsOf n self.old }
+        requires handle { IsHandle n self.old.handle }
+        ensures { (i : instances.Instance) → i.n ≡ n → Goes n result self.new (spec.teeth_on (verifier i) from (head self.old) left more (handle_of self.old.handle) (teeth_of self.old.teeth.items)) }
+    {
+        if more != 0 {
+            self.stage = Stage::Tooth(left, from, more - 1);
+            return Ok(());
+        }
+        let teeth = std::mem::replace(&mut self.teeth, Vec::new(alloc));
+        match self.handle.take() {
+            Some(handle) => {
+                let Some(cut) = comb(alloc, handle, teeth)? else {
+                    return Err(Trouble::Refused(5, from));
+                };
+                self.add(alloc, n, left, cut)
+            }
+            None => unreachable!(),
+        }
+    }
+}

@@ -1,0 +1,4 @@
+pub mod Listing
+pub mod TourLemmas
+pub mod DualLemmas
+pub mod PathLemmas

@@ -1,0 +1,74 @@
+//! Closed leaves.
+ghost use Rattle.std.specs.Prelude.{◌≡◌, length, map, IfOk};
+ghost use Rattle.std.specs.Option.{option_map};
+ghost use Rattle.std.specs.Int.Signed.{lt_z};
+ghost use Rattle.std.specs.List.{AllByRecursion};
+ghost use Rattle.tspdef.specs.Cuts.{IsCut};
+ghost use Rattle.tspdef.specs.Paths.{condition_at};
+ghost use Rattle.tspdef.specs.Closings.{IsClosing};
+ghost use Rattle.tspdef.specs.Bounds as bounds;
+ghost use Rattle.branchx.specs.Cond.{condition_of};
+ghost use Rattle.certdef.specs.Accepted.{is_clique};
+ghost use Rattle.certdef.specs.Tests.{closes_leaf};
+ghost use Rattle.certtests.specs.Listed.{listed};
+ghost use Rattle.certtests.specs.Duals.{AreDuals};
+
+use crate::duals::closing_of;
+use branchx::{Cond, Path};
+use cutform::Cut;
+use pricer::{Closing, bound, needed};
+use std::alloc::{AllocError, Global};
+use tspinst::Instance;
+
+/// Whether a depth of a path, from 1, is that of a condition on a set.
+pub fn names_clique(path: &Path, depth: u32) -> bool
+    ensures { result ≡ is_clique (condition_at path.now.conditions depth) }
+{
+    match depth.checked_sub(1) {
+        None => false,
+        Some(place) => is_on_set(path.conditions().get(place as usize)),
+    }
+}
+
+fn is_on_set(condition: Option<&Cond>) -> bool
+    ensures { result ≡ is_clique (option_map (λ c. condition_of c.now) condition.entry) }
+{
+    matches!(condition, Some(Cond::Two(_) | Cond::Four(_)))
+}
+
+/// Whether the duals of a leaf close it for a length: of cities from 1, of cuts by their numbers in the list, and of
+/// conditions on sets by their depth on the leaf's path. One pass over all pairs, and O(n + sizes of the named cuts).
+pub fn closes(
+    alloc: Global,
+    instance: &Instance,
+    long: u64,
+    cuts: &[Cut],
+    path: &Path,
+    cities: &[(u32, i64)],
+    cut_duals: &[(u32, u64)],
+    condition_duals: &[(u32, u64)],
+) -> Result<bool, AllocError>
+    requires cities_of { path.now.n ≡ instance.now.n }
+    requires cuts { AllByRecursion (IsCut instance.now.n) cuts.now }
+    requires duals { AreDuals (length cuts.now) path.now.conditions 0 0 (record { cities = cities.now; cuts = cut_duals.now; conds = condition_duals.now }) }
+    ensures { IfOk result (λ b. b ≡ closes_leaf instance.now long (map listed cuts.now) path.now.conditions (record { cities = cities.now; cuts = cut_duals.now; conds = condition_duals.now })) }
+{
+    let closing = closing_of(
+        alloc,
+        instance.n(),
+        cuts,
+        cities,
+        cut_duals,
+        condition_duals,
+    )?;
+    Ok(exceeds(instance, long, path, &closing))
+}
+
+/// Whether a closing's bound exceeds what a length needs.
+fn exceeds(instance: &Instance, long: u64, path: &Path, closing: &Closing) -> bool
+    requires cities { path.now.n ≡ instance.now.n }
+    requires closing { IsClosing instance.now.n path.now.conditions closing.now }
+    ensures { result ≡ lt_z (bounds.needed long) (bounds.bound instance.now path.now.conditions closing.now) }
+{
+    bound(instance, path, closing) > needed(long)
+}

@@ -1,0 +1,20 @@
+//! The tests that the lines of a proof text are judged by, as calls: each answers what the test's definition says.
+//!
+//! - [`city_set`] and [`is_proper`] are of sets, [`subtour`] and [`comb`] of cuts.
+//! - [`canonical_tour`] and [`has_length`] are of the tour.
+//! - [`names_clique`] and [`closes`] are of closed leaves.
+#![tactic(auto)]
+
+mod cuts;
+mod duals;
+mod leaves;
+mod sets;
+mod tours;
+
+pub use cuts::{comb, subtour};
+pub use leaves::{closes, names_clique};
+pub use sets::{city_set, is_proper};
+pub use tours::{canonical_tour, has_length};
+
+#[cfg(test)]
+mod tests;
