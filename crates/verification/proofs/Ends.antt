@@ -1,6 +1,5 @@
 -- How the steps of a run end on the desk.
-use Rattle.std.proofs.Common.{◌≡◌, ℕ, List, [], ◌++◌, length, take, drop, refl, sym, ap, subst, ◌∙◌, ◌⊎◌, inl, inr, ⊎_elim, Option, Some, None}
-use Rattle.std.proofs.lemmas.List.{append-nil}
+use Rattle.std.proofs.Common.{◌≡◌, ℕ, List, [], ◌++◌, length, take, drop, refl, sym, ap, subst, ◌∙◌, inl, inr, ⊎_elim, Option, Some}
 use Rattle.std.proofs.Math.Seq.{drop-length}
 use Rattle.ports.specs.Outside.{BothTell}
 use Rattle.ports.specs.Desk.{Told, Adds, with_added}
@@ -11,7 +10,7 @@ use Rattle.tspinst.specs.declared.refusals.Refusal.{Refusal}
 use Rattle.certcheck.specs.declared.answer.Answer.{Answer}
 use Rattle.certcheck.specs.declared.answer.Answer.TheVariants as answer
 use Rattle.verification.specs.Texts.{instance_text, verified_text, refused_text}
-use Rattle.verification.specs.Transfers.{IsBoundTo, ReadsInstance, RefusesInstance, TouchesInstance, TouchesProof}
+use Rattle.verification.specs.Transfers.{ReadsInstance, RefusesInstance, TouchesInstance, TouchesProof}
 use Rattle.verification.specs.Readings.{IsRefuseStatus}
 use Rattle.verification.specs.Answers.{IsRight, answer_text}
 use Rattle.verification.specs.Judging.{Judges}

@@ -1,5 +1,5 @@
 -- From the check of a proof to the printed answer.
-use Rattle.std.proofs.Common.{◌≡◌, ℕ, ◌≤◌, List, [], take, drop, refl, sym, ap, subst, ◌∙◌, ◌⊎◌, inl, inr, ⊎_elim, Option, Some, None}
+use Rattle.std.proofs.Common.{◌≡◌, ℕ, ◌≤◌, List, [], take, drop, refl, sym, ap, subst, ◌∙◌, ◌⊎◌, inr, ⊎_elim, Option, Some, None}
 use Rattle.std.specs.Prelude.{◌↔◌}
 use Rattle.ports.specs.Outside.{BothTell, WhereTold}
 use Rattle.ports.specs.Desk.{Told, Adds, TakesFirst, with_added, with_left, with_inlet_path}
@@ -12,7 +12,7 @@ use Rattle.certdef.specs.Laws.{AcceptedTextIsOptimal}
 use Rattle.certcheck.specs.declared.answer.Answer.{Answer}
 use Rattle.certcheck.specs.declared.answer.Answer.TheVariants as answer
 use Rattle.certcheck.specs.Answers.{verdict_of, IsYes}
-use Rattle.verification.specs.Transfers.{judged_told, TouchesProof}
+use Rattle.verification.specs.Transfers.{TouchesProof}
 use Rattle.verification.specs.Answers.{IsRight, answer_text, answer_status}
 use Rattle.verification.specs.Judging.{Judges, IsSayStatus}
 use Rattle.verification.specs.declared.statuses.VerifyStatus.{VerifyStatus}

@@ -1,5 +1,5 @@
 -- What follows from how a run ends.
-use Rattle.std.proofs.Common.{◌≡◌, ℕ, List, refl, sym, ap, subst, ◌∙◌, ◌⊎◌, inl, inr, Option, Some, None, Ok, Err, min, ◌+◌, ◌-◌, ◌^◌, ◌≤◌, ◌<◌, arith, map, string_bytes}
+use Rattle.std.proofs.Common.{◌≡◌, ℕ, List, refl, sym, ap, subst, ◌∙◌, inl, inr, Option, Some, None, Ok, arith, string_bytes}
 use Rattle.ports.specs.Outside.{BothTell, Cause}
 use Rattle.ports.specs.Desk.{Told}
 use Rattle.clap.specs.Walk.{Text}

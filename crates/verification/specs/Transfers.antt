@@ -1,5 +1,5 @@
 -- What each step of a run does to the desk.
-use Rattle.std.specs.Prelude.{◌≡◌, ℕ, ◌⊎◌, List, [], ◌++◌, take, drop, Option, Some}
+use Rattle.std.specs.Prelude.{◌≡◌, ℕ, ◌⊎◌, List, [], ◌++◌, drop, Option, Some}
 use Rattle.ports.specs.Desk.{Told}
 use Rattle.tspdef.specs.Instances.{Instance}
 use Rattle.tspinst.specs.Texts.{InstanceText, BadInstanceText}

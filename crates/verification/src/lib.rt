@@ -14,3 +14,8 @@ mod texts;
 pub use reading::{Reading, Unread, read_instance, refuse};
 pub use running::{run_verify, verify};
 pub use statuses::VerifyStatus;
+
+#[cfg(test)]
+mod table_tests;
+#[cfg(test)]
+mod tests;

@@ -1,4 +1,4 @@
-use Rattle.std.proofs.Common.{◌≡◌, ◌∙◌, sym}
+use Rattle.std.proofs.Common.{◌∙◌, sym}
 use Rattle.verification.proofs.Tells.{on_ok}
 use Rattle.verification.proofs.Judged.{checked, said}
 use Rattle.verification.proofs.judging.judge.Goals as goal

@@ -1,6 +1,6 @@
-use Rattle.std.proofs.Common.{◌≡◌, ℕ, List, subst, map, string_bytes, inl}
+use Rattle.std.proofs.Common.{subst, map, string_bytes, inl}
 use Rattle.ports.specs.Outside.{BothTell}
-use Rattle.verification.specs.Runs.{Paths, EndsDesk, paths_in, paths_of}
+use Rattle.verification.specs.Runs.{Paths, EndsDesk, paths_of}
 use Rattle.verification.proofs.Outcomes.{same_paths, at_status, verified_run, refused_run, bad_run, torn_run, silent_run, keeps_run, run_judges, run_accepts}
 use Rattle.verification.specs.declared.statuses.VerifyStatus.TheVariants as status
 use Rattle.verification.proofs.running.run_verify.Goals as goal
