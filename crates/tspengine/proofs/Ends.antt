@@ -1,4 +1,4 @@
-use Rattle.std.proofs.Common.{◌≡◌, ℕ, ◌≤◌, List, [], ◌++◌, length, take, drop, refl, sym, ap, subst, ◌∙◌, arith, ◌⊎◌, inl, inr, ⊎_elim, Option, Some, None}
+use Rattle.std.proofs.Common.{◌≡◌, ℕ, List, [], ◌++◌, length, take, drop, refl, sym, ap, subst, ◌∙◌, arith, ◌⊎◌, inl, inr, ⊎_elim, Option, Some}
 use Rattle.std.proofs.lemmas.List.{append-nil}
 use Rattle.std.proofs.Math.Seq.{drop-length}
 use Rattle.ports.specs.Outside.{BothTell}
@@ -12,8 +12,8 @@ use Rattle.tspengine.specs.Names.{Names}
 use Rattle.verification.specs.Transfers.{ReadsInstance, RefusesInstance}
 use Rattle.tspengine.specs.Transfers.{TakesFronts, PublishesFronts}
 use Rattle.tspengine.specs.Readings.{IsRefuseStatus}
-use Rattle.tspengine.specs.Finishes.{Finishes, FinishesOptimal, FinishesStopped, TearsOptimal, TearsStopped}
-use Rattle.tspengine.specs.Runs.{KeepsDesk, TakesNothing, EndsDesk, IsEnded}
+use Rattle.tspengine.specs.Finishes.{Finishes, TearsOptimal, TearsStopped}
+use Rattle.tspengine.specs.Runs.{KeepsDesk, EndsDesk}
 use Rattle.tspengine.specs.declared.statuses.Status.{Status}
 use Rattle.tspengine.specs.declared.statuses.Status.TheVariants as status
 use Rattle.verification.proofs.Tells.{both_to, both_then}

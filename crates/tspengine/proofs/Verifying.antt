@@ -1,13 +1,12 @@
 -- What a run of `verify` ends with, said in the statuses of a run.
-use Rattle.std.proofs.Common.{◌≡◌, ℕ, ◌≤◌, List, [], ◌++◌, refl, sym, ap, subst, ◌∙◌, ◌⊎◌, inl, inr, Option, Some, None, codes, string_bytes, arith}
+use Rattle.std.proofs.Common.{◌≡◌, ℕ, List, [], refl, sym, ap, ◌∙◌, inl, inr, Option, codes, string_bytes, arith}
 use Rattle.std.proofs.lemmas.List.{append-nil}
 use Rattle.ports.specs.Outside.{BothTell, Cause}
 use Rattle.ports.specs.Desk.{Told}
 use Rattle.ports.specs.Slots.{SlotsTold}
 use Rattle.clap.specs.Walk.{Text}
-use Rattle.tspwords.specs.Program.{IsTaken, IsSolveCall, IsVerifyCall}
-use Rattle.tspwords.specs.Says.{SaysSolve, SaysVerify}
-use Rattle.tspwords.specs.declared.words.Solve.{Solve}
+use Rattle.tspwords.specs.Program.{IsSolveCall, IsVerifyCall}
+use Rattle.tspwords.specs.Says.{SaysVerify}
 use Rattle.tspwords.specs.declared.words.VerifyWords.{VerifyWords}
 use Rattle.verification.specs.Runs as checks
 use Rattle.verification.specs.Runs.{Paths, paths_in}

@@ -1,5 +1,5 @@
 -- What a call of the solver does to the outside.
-use Rattle.std.specs.Prelude.{◌≡◌, ℕ, ◌+◌, ◌-◌, ◌^◌, ◌<◌, min, ◌⊎◌, List, [], ◌++◌, drop, Option, Some, None}
+use Rattle.std.specs.Prelude.{◌≡◌, ℕ, ◌⊎◌, List, [], ◌++◌, drop, Option, Some}
 use Rattle.ports.specs.Desk.{Told}
 use Rattle.ports.specs.Slots.{SlotsTold, with_path}
 use Rattle.tspengine.specs.Names.{Names}

@@ -1,4 +1,4 @@
-use Rattle.std.proofs.Common.{◌≡◌, ◌∙◌, sym, [], List, ℕ, subst, inr}
+use Rattle.std.proofs.Common.{◌∙◌, sym, [], List, ℕ, subst, inr}
 use Rattle.tspengine.specs.Names.{names_in}
 use Rattle.tspengine.specs.Outcomes.{IsOutcome, IsStopped}
 use Rattle.tspengine.specs.Transfers.{PublishesFronts}

@@ -1,6 +1,6 @@
-use Rattle.std.proofs.Common.{◌≡◌, ℕ, List, subst, map, string_bytes, inl, inr, refl}
+use Rattle.std.proofs.Common.{subst, map, string_bytes, inl, inr, refl}
 use Rattle.ports.specs.Outside.{BothTell}
-use Rattle.tspwords.specs.Program.{IsSolveCall, IsVerifyCall}
+use Rattle.tspwords.specs.Program.{IsVerifyCall}
 use Rattle.tspwords.specs.Says.{Says}
 use Rattle.tspwords.specs.declared.words.Command.{Command}
 use Rattle.verification.specs.Runs as checks

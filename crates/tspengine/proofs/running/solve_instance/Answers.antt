@@ -1,4 +1,4 @@
-use Rattle.std.proofs.Common.{◌≡◌, List, ℕ, subst, refl, inl, inr}
+use Rattle.std.proofs.Common.{List, ℕ, subst, refl, inl, inr}
 use Rattle.ports.specs.Outside.{BothTell}
 use Rattle.verification.specs.declared.reading.Reading.{Reading}
 use Rattle.tspengine.specs.declared.statuses.Status.TheVariants as status
