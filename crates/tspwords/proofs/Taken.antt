@@ -272,17 +272,17 @@ taken_whole words taken =
 pub taken_given : TakenWordsAreGiven
 taken_given words taken = elim (taken_whole words taken) [
   | inl solve ↦ inl (record {
-      named = record { taken = taken; named = solve.named };
-      instance = solve.whole.instance;
-      proof = solve.whole.proof;
-      restart = solve.whole.restart;
-      budget = unsigned_in (word_for (codes "budget") words) solve.whole.budget;
-    })
+    named = record { taken = taken; named = solve.named };
+    instance = solve.whole.instance;
+    proof = solve.whole.proof;
+    restart = solve.whole.restart;
+    budget = unsigned_in (word_for (codes "budget") words) solve.whole.budget;
+  })
   | inr verify ↦ inr (record {
-      named = record { taken = taken; named = verify.named };
-      instance = verify.paths.instance;
-      proof = verify.paths.proof;
-    })
+    named = record { taken = taken; named = verify.named };
+    instance = verify.paths.instance;
+    proof = verify.paths.proof;
+  })
 ]
 
 -- the words name the command that was found

@@ -67,8 +67,7 @@ pub(crate) fn program<'a>(alloc: Global) -> Result<Command<'a>, AllocError>
     let top = Command::new(alloc, "tspc")
         .subcommand_required(true)
         .disable_help_subcommand(true);
-    top.subcommand(solve(alloc)?)?
-        .subcommand(verify(alloc)?)
+    top.subcommand(solve(alloc)?)?.subcommand(verify(alloc)?)
 }
 
 /// The verifier.

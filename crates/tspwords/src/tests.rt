@@ -47,7 +47,12 @@ fn words_that_are_taken(rt: HostRuntime) -> Result<(), Fail> {
 fn words_of_verify_that_are_taken(rt: HostRuntime) -> Result<(), Fail> {
     for (line, own, instance, proof) in [
         ("tspc verify a b", "tspverify a b", "a", "b"),
-        ("tspc verify verify solve", "tspverify verify solve", "verify", "solve"),
+        (
+            "tspc verify verify solve",
+            "tspverify verify solve",
+            "verify",
+            "solve",
+        ),
         ("tspc verify -- -a b", "tspverify -- -a b", "-a", "b"),
         ("tspc verify a -", "tspverify a -", "a", "-"),
     ] {

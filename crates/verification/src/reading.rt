@@ -29,11 +29,7 @@ pub enum Unread {
 }
 
 /// Binds the inlet of the instance, and reads it.
-pub fn read_instance<D: Desk>(
-    alloc: Global,
-    desk: &mut D,
-    path: &str,
-) -> Result<Reading, Unread>
+pub fn read_instance<D: Desk>(alloc: Global, desk: &mut D, path: &str) -> Result<Reading, Unread>
     ensures reading { IfOk result (λ r. BothTell (IsReadingOf path.now r) (D.told desk.old) (D.told desk.new)) }
     ensures unread { OnErr result (BothTell (TouchesInstance path.now) (D.told desk.old) (D.told desk.new)) }
     ensures cause { Cause (IsErrOf result Unread.Failed) (D.read_faults desk.old) (D.read_faults desk.new) }

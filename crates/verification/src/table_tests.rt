@@ -1,7 +1,7 @@
 //! Texts that are refused, each with the refusal and the line that the grammar gives it by hand.
 
-use crate::tests::{HEAD, PROOF, SQUARE, verified, with_line};
 use crate::VerifyStatus;
+use crate::tests::{HEAD, PROOF, SQUARE, verified, with_line};
 use std::alloc::{AllocError, Global};
 use std::test::Fail;
 

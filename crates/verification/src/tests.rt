@@ -258,7 +258,11 @@ fn other_words_are_usage(rt: HostRuntime) -> Result<(), Fail> {
     ] {
         let ended = run_with(alloc, line, SQUARE, PROOF, &NONE)?;
         assert_eq!(rt; ended.status, VerifyStatus::Usage, "{line}");
-        assert_eq!(rt; ended.desk.text(), b"USAGE tspverify INSTANCE PROOF\n".as_slice(), "{line}");
+        assert_eq!(rt;
+            ended.desk.text(),
+            b"USAGE tspverify INSTANCE PROOF\n".as_slice(),
+            "{line}"
+        );
     }
     Ok(())
 }

@@ -217,4 +217,3 @@ returns-in-Ok-Verify-clause-accepted g c =
     let b = g.D.Desk.told c.verify.new.desk in
     let ends = subst (λ (p : Paths). BothTell (checks.EndsDesk p v) a b) (same_paths words c.in-Ok-Verify.words says) c.verify.ensures.desk in
     λ i l _ told calm still. verified_status s v is (run_accepts paths v i l a b _ _ _ _ ends c.verify.ensures.status told c.verify.ensures.reads c.verify.ensures.writes calm still)
-

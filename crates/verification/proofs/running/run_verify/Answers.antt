@@ -76,4 +76,3 @@ returns-in-Ok-clause-accepted g c =
     let b = g.D.Desk.told c.verify.new.desk in
     let ends = subst (λ (p : Paths). BothTell (EndsDesk p c.verify.result) a b) (same_paths words c.in-Ok.words c.in-Ok.ensures.says) c.verify.ensures.desk in
     λ i l taken told calm still. run_accepts paths c.verify.result i l a b _ _ _ _ ends c.verify.ensures.status told c.verify.ensures.reads c.verify.ensures.writes calm still
-
