@@ -1,4 +1,4 @@
-use Rattle.std.proofs.Common.{◌≡◌, ℕ, ◌≤◌, List, [], ◌++◌, length, take, drop, refl, sym, ap, subst, ◌∙◌, arith, ◌⊎◌, inl, inr, ⊎_elim, Option, Some, None}
+use Rattle.std.proofs.Common.{◌≡◌, ℕ, List, [], ◌++◌, length, take, drop, refl, sym, ap, subst, ◌∙◌, arith, ◌⊎◌, inl, inr, ⊎_elim, Option, Some}
 use Rattle.std.proofs.lemmas.List.{append-nil}
 use Rattle.std.proofs.Math.Seq.{drop-length}
 use Rattle.ports.specs.Outside.{BothTell}
@@ -7,15 +7,16 @@ use Rattle.ports.specs.Slots.{SlotsTold}
 use Rattle.ports.specs.declared.desk.Outlet.TheVariants as outlet
 use Rattle.tspdef.specs.Instances.{Instance}
 use Rattle.tspinst.specs.declared.refusals.Refusal.{Refusal}
-use Rattle.tspengine.specs.Texts.{instance_text}
+use Rattle.verification.specs.Texts.{instance_text}
 use Rattle.tspengine.specs.Names.{Names}
-use Rattle.tspengine.specs.Transfers.{ReadsInstance, RefusesInstance, TakesFronts, PublishesFronts}
+use Rattle.verification.specs.Transfers.{ReadsInstance, RefusesInstance}
+use Rattle.tspengine.specs.Transfers.{TakesFronts, PublishesFronts}
 use Rattle.tspengine.specs.Readings.{IsRefuseStatus}
-use Rattle.tspengine.specs.Finishes.{Finishes, FinishesOptimal, FinishesStopped, TearsOptimal, TearsStopped}
-use Rattle.tspengine.specs.Runs.{KeepsDesk, TakesNothing, EndsDesk, IsEnded}
+use Rattle.tspengine.specs.Finishes.{Finishes, TearsOptimal, TearsStopped}
+use Rattle.tspengine.specs.Runs.{KeepsDesk, EndsDesk}
 use Rattle.tspengine.specs.declared.statuses.Status.{Status}
 use Rattle.tspengine.specs.declared.statuses.Status.TheVariants as status
-use Rattle.tspengine.proofs.Tells.{both_to, both_then}
+use Rattle.verification.proofs.Tells.{both_to, both_then}
 
 -- a desk that was read whole
 abbrev read_told : List ℕ → Told → Told
@@ -153,8 +154,10 @@ ends_at names slots i status.Optimal t u v r f =
         instance = ap (λ (x : Told). x.instance) e ∙ ap (λ (x : Told). x.instance) d ∙ sym (drop-length t.instance);
       };
     }
+ends_at names slots i status.Verified t u v r f = absurd f
 ends_at names slots i status.Usage t u v r f = absurd f
 ends_at names slots i status.BadInstance t u v r f = absurd f
+ends_at names slots i status.Refused t u v r f = absurd f
 ends_at names slots i status.Stopped t u v r f =
     let d = r.others in
     let e = f.prints in

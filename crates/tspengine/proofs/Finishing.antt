@@ -3,7 +3,7 @@ use Rattle.std.specs.Prelude.{if◌then◌else◌, ◌==◌}
 use Rattle.ports.specs.Outside.{BothTell}
 use Rattle.ports.specs.Slots.{SlotsTold, SlotTold, with_slot, slot_of}
 use Rattle.slotstore.specs.Store.{target, after_save, ChangesTarget}
-use Rattle.tspengine.proofs.Tells.{both_to}
+use Rattle.verification.proofs.Tells.{both_to}
 
 -- another slot leaves the path
 one_of_paths : (b : Bool) (t : SlotsTold) (u v : SlotsTold) → u.path ≡ t.path → v.path ≡ t.path → (if b then u else v).path ≡ t.path

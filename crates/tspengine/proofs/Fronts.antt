@@ -1,12 +1,10 @@
-use Rattle.std.proofs.Common.{◌≡◌, ℕ, ◌≤◌, List, [], ◌++◌, length, take, refl, sym, ap, subst, ◌∙◌, arith, inl, inr, Option, Some, None}
+use Rattle.std.proofs.Common.{◌≡◌, ℕ, List, [], ◌++◌, length, take, refl, sym, ap, subst, ◌∙◌, arith, inl, inr, Option}
 use Rattle.std.proofs.lemmas.List.{take_all, append-nil}
 use Rattle.ports.specs.Outside.{BothTell}
 use Rattle.ports.specs.Desk.{Told, Adds, with_added, with_outlet_path}
 use Rattle.ports.specs.declared.desk.Outlet.TheVariants as outlet
 use Rattle.tspengine.specs.Transfers.{TakesFronts, PublishesFronts}
-use Rattle.tspengine.specs.Texts.{usage_text}
-use Rattle.tspengine.specs.Runs.{IsTornUsage}
-use Rattle.tspengine.proofs.Tells.{both_to, both_then}
+use Rattle.verification.proofs.Tells.{both_to, both_then}
 
 -- nothing behind what an outlet has taken
 nothing : (xs : List ℕ) → xs ≡ xs ++ []

@@ -1,5 +1,5 @@
-mod Tells
 mod Fronts
 mod Finishing
 mod Writing
 mod Ends
+mod Verifying

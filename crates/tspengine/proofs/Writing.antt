@@ -1,4 +1,4 @@
-use Rattle.std.proofs.Common.{◌≡◌, ℕ, ◌+◌, ◌-◌, ◌<◌, ◌≤◌, List, [], ◌∷◌, ◌++◌, map, refl, sym, ap, subst, ◌∙◌, arith}
+use Rattle.std.proofs.Common.{◌≡◌, ℕ, ◌+◌, ◌-◌, ◌<◌, ◌≤◌, List, [], ◌∷◌, ◌++◌, refl, sym, ap, subst, ◌∙◌, arith}
 use Rattle.tspdef.specs.Tours.{IsCanonicalForm}
 use Rattle.tspdef.specs.Instances.{Instance, IsInstance, IsTourOf, length_in}
 use Rattle.tspdef.specs.Paths.{Condition, absent, present, two, four}

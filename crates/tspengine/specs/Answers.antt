@@ -7,7 +7,7 @@ use Rattle.tspinst.specs.Texts.{InstanceText, BadInstanceText}
 use Rattle.tspinst.specs.Refusals.{number_of, line_of, extras_of}
 use Rattle.tspinst.specs.declared.refusals.Refusal.{Refusal}
 use Rattle.slotstore.specs.Store.{loaded}
-use Rattle.tspengine.specs.Texts.{instance_text}
+use Rattle.verification.specs.Texts.{instance_text}
 use Rattle.tspengine.specs.Outcomes.{IsOptimal, IsStopped}
 use Rattle.tspengine.specs.declared.statuses.Status.{Status}
 use Rattle.tspengine.specs.declared.statuses.Status.TheVariants as status
@@ -37,8 +37,10 @@ pub record IsRefusedAnswer (bytes proof printed : List ℕ) : Type 0 where
 -- the answer with a status
 abbrev pub IsAnswer : ℕ → List ℕ → Option SlotsTold → Status → List ℕ → List ℕ → Type 0
 IsAnswer budget bytes slots status.Optimal proof printed = IsOptimalAnswer bytes proof printed
+IsAnswer budget bytes slots status.Verified proof printed = ⊥
 IsAnswer budget bytes slots status.Usage proof printed = ⊥
 IsAnswer budget bytes slots status.BadInstance proof printed = IsRefusedAnswer bytes proof printed
+IsAnswer budget bytes slots status.Refused proof printed = ⊥
 IsAnswer budget bytes slots status.Stopped proof printed = IsStoppedAnswer budget bytes slots proof printed
 IsAnswer budget bytes slots status.ReadFault proof printed = ⊥
 IsAnswer budget bytes slots status.WriteFault proof printed = ⊥

@@ -43,8 +43,10 @@ pub record TearsStopped (names : Names) (i : Instance) (slots : Option SlotsTold
 
 abbrev pub Finishes : Names → Instance → Option SlotsTold → Status → Told → Told → Type 0
 Finishes names i slots status.Optimal t u = FinishesOptimal names i t u
+Finishes names i slots status.Verified t u = ⊥
 Finishes names i slots status.Usage t u = ⊥
 Finishes names i slots status.BadInstance t u = ⊥
+Finishes names i slots status.Refused t u = ⊥
 Finishes names i slots status.Stopped t u = FinishesStopped names i slots t u
 Finishes names i slots status.ReadFault t u = ⊥
 Finishes names i slots status.WriteFault t u = TearsOptimal names i t u ⊎ TearsStopped names i slots t u
@@ -54,8 +56,10 @@ Finishes names i slots status.NoMemory t u = ⊥
 -- the last step leaves the slots' path, and with Optimal the slots; with other statuses than these four it does not end
 abbrev pub SavesAt : Status → SlotsTold → SlotsTold → Type 0
 SavesAt status.Optimal t u = u ≡ t
+SavesAt status.Verified t u = ⊥
 SavesAt status.Usage t u = ⊥
 SavesAt status.BadInstance t u = ⊥
+SavesAt status.Refused t u = ⊥
 SavesAt status.Stopped t u = u.path ≡ t.path
 SavesAt status.ReadFault t u = ⊥
 SavesAt status.WriteFault t u = u.path ≡ t.path

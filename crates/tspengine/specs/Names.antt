@@ -1,10 +1,11 @@
--- What the words of a call of `solve` name.
+-- What the words of a call name.
 use Rattle.std.specs.Prelude.{ℕ, List, string_bytes}
 use Rattle.clap.specs.Walk.{Text}
 use Rattle.tspwords.specs.Program.{instance_word, proof_word, restart_word, budget_of}
 use Rattle.tspwords.specs.declared.words.Solve.{Solve}
+use Rattle.verification.specs.Runs.{Paths}
 
--- the paths of the instance, of the proof and of the slots, and the budget
+-- of `solve`: the paths of the instance, of the proof and of the slots, and the budget
 pub record Names : Type 0 where
   pub instance : List ℕ
   pub proof : List ℕ
@@ -19,7 +20,11 @@ names_of words = record {
   budget = budget_of words;
 }
 
--- the same of words that are read
+-- of `verify`: the paths of the instance and of the proof
+abbrev pub paths_of : List Text → Paths
+paths_of words = record { instance = instance_word words; proof = proof_word words }
+
+-- the names of words that are read
 abbrev pub names_in : Solve → Names
 names_in s = record {
   instance = string_bytes s.instance;

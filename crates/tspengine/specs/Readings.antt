@@ -1,16 +1,19 @@
--- What the bytes of the instance are.
-use Rattle.std.specs.Prelude.{◌≡◌, ℕ, ◌⊎◌, List}
-use Rattle.ports.specs.Desk.{Told}
-use Rattle.tspengine.specs.Transfers.{ReadsInstance, RefusesInstance}
-use Rattle.tspengine.specs.declared.publishing.Reading.{Reading}
-use Rattle.tspengine.specs.declared.publishing.Reading.TheVariants as reading
+-- What the first steps end with, which the verifier shares.
+use Rattle.std.specs.Prelude.{◌≡◌, ◌⊎◌}
+use Rattle.verification.specs.declared.statuses.VerifyStatus.{VerifyStatus}
+use Rattle.verification.specs.declared.statuses.VerifyStatus.TheVariants as checked
 use Rattle.tspengine.specs.declared.statuses.Status.{Status}
 use Rattle.tspengine.specs.declared.statuses.Status.TheVariants as status
 
--- an instance was read, or its first refusal
-abbrev pub IsReadingOf : List ℕ → Reading → Told → Told → Type 0
-IsReadingOf word (reading.Instance i) t u = ReadsInstance word i t u
-IsReadingOf word (reading.Refused r) t u = RefusesInstance word r t u
+-- the status of a run that ends as the verifier does
+abbrev pub status_of : VerifyStatus → Status
+status_of checked.Verified = status.Verified
+status_of checked.Usage = status.Usage
+status_of checked.BadInstance = status.BadInstance
+status_of checked.Refused = status.Refused
+status_of checked.ReadFault = status.ReadFault
+status_of checked.WriteFault = status.WriteFault
+status_of checked.NoMemory = status.NoMemory
 
 -- reading fails by a fault or for want of memory
 abbrev pub IsReadError : Status → Type 0

@@ -1,10 +1,11 @@
 -- What a call of the solver does to the outside.
-use Rattle.std.specs.Prelude.{◌≡◌, ℕ, ◌+◌, ◌-◌, ◌^◌, ◌<◌, min, ◌⊎◌, List, [], ◌++◌, drop, Option, Some, None}
+use Rattle.std.specs.Prelude.{◌≡◌, ℕ, ◌⊎◌, List, [], ◌++◌, drop, Option, Some}
 use Rattle.ports.specs.Desk.{Told}
 use Rattle.ports.specs.Slots.{SlotsTold, with_path}
 use Rattle.tspengine.specs.Names.{Names}
 use Rattle.tspengine.specs.Answers.{IsAnswer, IsOptimalAnswer, IsStoppedAnswer, IsRefusedAnswer}
-use Rattle.tspengine.specs.Transfers.{IsBoundTo, TakesFronts}
+use Rattle.verification.specs.Transfers.{IsBoundTo}
+use Rattle.tspengine.specs.Transfers.{TakesFronts}
 use Rattle.tspengine.specs.Texts.{usage_text}
 use Rattle.tspengine.specs.declared.statuses.Status.{Status}
 use Rattle.tspengine.specs.declared.statuses.Status.TheVariants as status
@@ -85,7 +86,23 @@ IsSilent s = (s ≡ status.ReadFault) ⊎ (s ≡ status.StoreFault) ⊎ (s ≡ s
 
 -- the words were of a command's form
 abbrev pub IsPastWords : Status → Type 0
-IsPastWords s = (s ≡ status.Optimal) ⊎ (s ≡ status.BadInstance) ⊎ (s ≡ status.Stopped) ⊎ (s ≡ status.ReadFault) ⊎ (s ≡ status.StoreFault)
+IsPastWords s = (s ≡ status.BadInstance) ⊎ (s ≡ status.ReadFault)
+
+-- they were words of `solve`
+abbrev pub IsSolveStatus : Status → Type 0
+IsSolveStatus s = (s ≡ status.Optimal) ⊎ (s ≡ status.Stopped) ⊎ (s ≡ status.StoreFault)
+
+-- they were words of `verify`
+abbrev pub IsVerifyStatus : Status → Type 0
+IsVerifyStatus s = (s ≡ status.Verified) ⊎ (s ≡ status.Refused)
+
+-- Verified or Refused, or want of memory
+abbrev pub IsJudged : Status → Type 0
+IsJudged s = (s ≡ status.Verified) ⊎ (s ≡ status.Refused) ⊎ (s ≡ status.NoMemory)
+
+-- Verified, or want of memory
+abbrev pub IsVerified : Status → Type 0
+IsVerified s = (s ≡ status.Verified) ⊎ (s ≡ status.NoMemory)
 
 -- nothing was saved to the slots
 abbrev pub IsUnsaved : Status → Type 0
@@ -99,21 +116,14 @@ IsSlotted s = (s ≡ status.Optimal) ⊎ (s ≡ status.Stopped)
 abbrev pub IsSolved : Status → Type 0
 IsSolved s = (s ≡ status.Optimal) ⊎ (s ≡ status.Stopped) ⊎ (s ≡ status.NoMemory)
 
--- a count of faults did not rise, and does not stand at its type's last value
-abbrev pub IsCalm : ℕ → ℕ → Type 0
-IsCalm before after = after < min (before + 1) (2 ^ 64 - 1)
-
--- it is told, and so
-abbrev pub IsTold : {T : Type 0} → (T → Type 0) → Option T → Type 0
-IsTold P None = ⊥
-IsTold P (Some t) = P t
-
 -- ---- by status, for the steps of a run
 
 abbrev pub IsEnded : Names → Option SlotsTold → Status → Told → Told → Type 0
 IsEnded names slots status.Optimal t u = IsOptimalRun names t u
+IsEnded names slots status.Verified t u = ⊥
 IsEnded names slots status.Usage t u = ⊥
 IsEnded names slots status.BadInstance t u = IsRefusedRun names t u
+IsEnded names slots status.Refused t u = ⊥
 IsEnded names slots status.Stopped t u = IsStoppedRun names slots t u
 IsEnded names slots status.ReadFault t u = TakesNothing t u
 IsEnded names slots status.WriteFault t u = IsTornRun names slots t u

@@ -1,8 +1,6 @@
 -- What is printed. Cities count from 1, and each line ends with one LF.
 use Rattle.std.specs.Prelude.{ℕ, ◌+◌, List, ◌∷◌, ◌++◌, codes, decimal}
 use Rattle.std.specs.List.{flat_map}
-use Rattle.tspinst.specs.declared.refusals.Refusal.{Refusal}
-use Rattle.tspinst.specs.Refusals.{refusal_text}
 
 -- a city behind a space
 abbrev pub city_text : ℕ → List ℕ
@@ -18,10 +16,6 @@ optimal_text l tour = codes "OPTIMAL " ++ decimal l ++ codes "\nTOUR" ++ cities_
 -- the best length so far, and how many nodes are open
 abbrev pub stopped_text : ℕ → ℕ → List ℕ
 stopped_text best open_nodes = codes "STOPPED " ++ decimal best ++ codes " " ++ decimal open_nodes ++ codes "\n"
-
--- the first refusal of the instance's text
-abbrev pub instance_text : Refusal → List ℕ
-instance_text r = codes "INSTANCE " ++ refusal_text r ++ codes "\n"
 
 abbrev pub usage_text : List ℕ
 usage_text = codes "USAGE tspc solve/verify/tour/bench\n"

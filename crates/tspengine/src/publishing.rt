@@ -1,20 +1,18 @@
 //! The steps of a run on the desk and the slots.
-ghost use Rattle.std.specs.Prelude.{◌≡◌, ◌⊎◌, IfOk, IfErr, IsErr, IsErrOf, OnErr, OnOk};
+ghost use Rattle.std.specs.Prelude.{◌≡◌, ◌⊎◌, ℕ, take, IfOk, IfErr, IsErr, IsErrOf, OnErr, OnOk};
 ghost use Rattle.ports.specs.Outside.{BothTell, Cause};
-ghost use Rattle.tspengine.specs.Transfers.{TouchesInstance, Publishes, PublishesFronts};
-ghost use Rattle.tspengine.specs.Readings.{IsReadingOf, IsReadError};
+ghost use Rattle.ports.specs.Desk.{Adds};
+ghost use Rattle.verification.specs.Texts.{instance_text};
+ghost use Rattle.verification.specs.Transfers.{TouchesInstance};
+ghost use Rattle.verification.specs.Readings.{IsReadingOf};
+ghost use Rattle.tspengine.specs.Transfers.{Publishes, PublishesFronts, either};
+ghost use Rattle.tspengine.specs.Readings.{IsReadError, IsRefuseStatus};
 
 use crate::statuses::Status;
-use ports::{Desk, Failed, Inlet, Outlet, write_all};
+use ports::{Desk, Failed, Outlet, write_all};
 use std::alloc::Global;
-use tspinst::{Instance, ReadError, Refusal, read};
-
-/// What the bytes of the instance are.
-#[derive(Drop)]
-pub enum Reading {
-    Instance(Instance),
-    Refused(Refusal),
-}
+use tspinst::Refusal;
+use verification::{Reading, Unread, VerifyStatus};
 
 /// Binds the inlet of the instance, and reads it.
 pub(crate) fn read_instance<D: Desk>(
@@ -28,14 +26,32 @@ pub(crate) fn read_instance<D: Desk>(
     ensures cause { Cause (IsErrOf result Status.ReadFault) (D.read_faults desk.old) (D.read_faults desk.new) }
     ensures same { D.write_faults desk.new ≡ D.write_faults desk.old }
 {
-    if desk.bind_in(Inlet::Instance, path).is_err() {
-        return Err(Status::ReadFault);
+    match verification::read_instance(alloc, desk, path) {
+        Ok(reading) => Ok(reading),
+        Err(Unread::Failed) => Err(Status::ReadFault),
+        Err(Unread::NoMemory) => Err(Status::NoMemory),
     }
-    match read(alloc, desk) {
-        Ok(instance) => Ok(Reading::Instance(instance)),
-        Err(ReadError::Refused(refusal)) => Ok(Reading::Refused(refusal)),
-        Err(ReadError::Failed) => Err(Status::ReadFault),
-        Err(ReadError::NoMemory) => Err(Status::NoMemory),
+}
+
+/// Prints the first refusal of an instance's text.
+pub(crate) fn refuse<D: Desk>(
+    alloc: Global,
+    desk: &mut D,
+    refusal: Refusal,
+) -> Result<Status, Status>
+    ensures refused { either result ≡ Status.BadInstance
+        → BothTell (Adds Outlet.Text (instance_text refusal)) (D.told desk.old) (D.told desk.new) }
+    ensures torn { either result ≡ Status.WriteFault
+        → (k : ℕ) × BothTell (Adds Outlet.Text (take k (instance_text refusal))) (D.told desk.old) (D.told desk.new) }
+    ensures silent { either result ≡ Status.NoMemory → D.told desk.new ≡ D.told desk.old }
+    ensures status { IsRefuseStatus (either result) }
+    ensures cause { Cause (either result ≡ Status.WriteFault) (D.write_faults desk.old) (D.write_faults desk.new) }
+    ensures same { D.read_faults desk.new ≡ D.read_faults desk.old }
+{
+    match verification::refuse(alloc, desk, refusal) {
+        VerifyStatus::BadInstance => Ok(Status::BadInstance),
+        VerifyStatus::WriteFault => Err(Status::WriteFault),
+        _ => Err(Status::NoMemory),
     }
 }
 

@@ -1,27 +1,27 @@
 //! The run of a command.
-ghost use Rattle.std.specs.Prelude.{◌≡◌, ◌≢◌, ◌⊎◌, ◌≤◌, ℕ, take, map, string_bytes};
+ghost use Rattle.std.specs.Prelude.{◌≡◌, ◌≢◌, ◌⊎◌, ◌≤◌, ℕ, map, string_bytes};
 ghost use Rattle.ports.specs.Outside.{BothTell, Cause};
 ghost use Rattle.tspinst.specs.Texts.{InstanceText};
 ghost use Rattle.tspdef.specs.Instances as instances;
-ghost use Rattle.tspwords.specs.Program.{IsTaken};
-ghost use Rattle.ports.specs.Desk.{Adds};
-ghost use Rattle.tspengine.specs.Names.{Names, names_of, names_in};
-ghost use Rattle.tspengine.specs.Texts as texts;
-ghost use Rattle.tspengine.specs.Readings.{IsRefuseStatus};
+ghost use Rattle.certdef.specs.Accepted.{IsAcceptedText};
+ghost use Rattle.tspwords.specs.Program.{IsTaken, IsSolveCall, IsVerifyCall};
+ghost use Rattle.verification.specs.Counts.{IsCalm, IsTold};
+ghost use Rattle.verification.specs.Runs as checks;
+ghost use Rattle.tspengine.specs.Names.{Names, names_of, names_in, paths_of};
 ghost use Rattle.tspengine.specs.Transfers.{either};
 ghost use Rattle.tspengine.specs.Outcomes.{IsOutcome};
 ghost use Rattle.tspengine.specs.Finishes.{Finishes, SavesAt, IsFinishStatus};
-ghost use Rattle.tspengine.specs.Runs.{IsOptimalRun, IsStoppedRun, IsRefusedRun, IsUsageRun, IsTornRun, IsTornUsage, TakesNothing, KeepsDesk, KeepsSlotsPath, KeepsSlots, IsSilent, IsPastWords, IsUnsaved, IsSlotted, IsSolved, IsCalm, IsTold, EndsDesk, EndsSlots};
+ghost use Rattle.tspengine.specs.Runs.{IsOptimalRun, IsStoppedRun, IsRefusedRun, IsUsageRun, IsTornRun, IsTornUsage, TakesNothing, KeepsDesk, KeepsSlotsPath, KeepsSlots, IsSilent, IsPastWords, IsSolveStatus, IsVerifyStatus, IsUnsaved, IsSlotted, IsSolved, IsJudged, IsVerified, EndsDesk, EndsSlots};
 
 use crate::outcomes::{Outcome, outcome_of};
-use crate::publishing::{Reading, publish, read_instance};
-use crate::statuses::Status;
-use crate::texts::{USAGE, instance_text};
+use crate::publishing::{publish, read_instance, refuse};
+use crate::statuses::{Status, status_of};
+use crate::texts::USAGE;
 use ports::{Desk, Outlet, Slots, write_all};
 use slotstore::save;
 use std::alloc::Global;
-use tspinst::Refusal;
 use tspwords::{Command, Solve, WordsError, read_command};
+use verification::{Reading, verify};
 
 /// Does what the words of a command line say, of which the first is the program's name, and says how it ended.
 ///
@@ -29,7 +29,11 @@ use tspwords::{Command, Solve, WordsError, read_command};
 /// them are settled. In the first case it writes the proof that a tour is shortest, and prints `OPTIMAL` with the tour; in
 /// the second it saves to the slots a body to go on from, and prints `STOPPED`.
 ///
-/// Where the desk or the slots do not tell what they hold, the clauses speak of the counts of faults alone.
+/// `verify INSTANCE PROOF` reads the instance and then the proof, whoever wrote it, and prints `VERIFIED` and the length of a
+/// shortest tour where the proof is accepted, and else `REFUSED` and its first refusal with the line of it.
+///
+/// Where the desk or the slots do not tell what they hold, the clauses speak of the counts of faults alone. `verify` leaves the
+/// slots alone.
 pub fn run<R, D: Desk, L: Slots>(
     _rt: &R,
     alloc: Global,
@@ -41,29 +45,50 @@ pub fn run<R, D: Desk, L: Slots>(
         → BothTell (IsOptimalRun (names_of (map string_bytes words.now))) (D.told desk.old) (D.told desk.new) }
     ensures stopped { result ≡ Status.Stopped
         → BothTell (IsStoppedRun (names_of (map string_bytes words.now)) (L.told slots.new)) (D.told desk.old) (D.told desk.new) }
+    ensures verified { result ≡ Status.Verified
+        → BothTell (checks.IsVerifiedRun (paths_of (map string_bytes words.now))) (D.told desk.old) (D.told desk.new) }
+    ensures refused { result ≡ Status.Refused
+        → BothTell (checks.IsRefusedRun (paths_of (map string_bytes words.now))) (D.told desk.old) (D.told desk.new) }
     ensures bad_instance { result ≡ Status.BadInstance
         → BothTell (IsRefusedRun (names_of (map string_bytes words.now))) (D.told desk.old) (D.told desk.new) }
     ensures usage { result ≡ Status.Usage
         → ¬ IsTaken (map string_bytes words.now) × BothTell IsUsageRun (D.told desk.old) (D.told desk.new) }
     ensures words { IsPastWords result → IsTaken (map string_bytes words.now) }
+    ensures solves { IsSolveStatus result → IsSolveCall (map string_bytes words.now) }
+    ensures verifies { IsVerifyStatus result → IsVerifyCall (map string_bytes words.now) }
     ensures reads { Cause (result ≡ Status.ReadFault) (D.read_faults desk.old) (D.read_faults desk.new) }
     ensures writes { Cause (result ≡ Status.WriteFault) (D.write_faults desk.old) (D.write_faults desk.new) }
     ensures store { Cause (result ≡ Status.StoreFault) (L.faults slots.old) (L.faults slots.new) }
     ensures silent { IsSilent result → BothTell TakesNothing (D.told desk.old) (D.told desk.new) }
     ensures torn { result ≡ Status.WriteFault
-        → (IsTaken (map string_bytes words.now)
+        → (IsSolveCall (map string_bytes words.now)
         × BothTell (IsTornRun (names_of (map string_bytes words.now)) (L.told slots.new)) (D.told desk.old) (D.told desk.new))
+        ⊎ (IsVerifyCall (map string_bytes words.now) × BothTell checks.IsTornRun (D.told desk.old) (D.told desk.new))
         ⊎ (¬ IsTaken (map string_bytes words.now) × BothTell IsTornUsage (D.told desk.old) (D.told desk.new)) }
-    ensures desk { BothTell (KeepsDesk (names_of (map string_bytes words.now))) (D.told desk.old) (D.told desk.new) }
+    ensures desk { ¬ IsVerifyCall (map string_bytes words.now)
+        → BothTell (KeepsDesk (names_of (map string_bytes words.now))) (D.told desk.old) (D.told desk.new) }
+    ensures verify_desk { IsVerifyCall (map string_bytes words.now)
+        → BothTell (checks.KeepsDesk (paths_of (map string_bytes words.now))) (D.told desk.old) (D.told desk.new) }
+    ensures verify_slots { IsVerifyCall (map string_bytes words.now)
+        → (L.told slots.new ≡ L.told slots.old) × (L.faults slots.new ≡ L.faults slots.old) }
     ensures slots { BothTell (EndsSlots (names_of (map string_bytes words.now)) result) (L.told slots.old) (L.told slots.new) }
-    ensures complete { (i : instances.Instance) → IsTaken (map string_bytes words.now)
+    ensures complete { (i : instances.Instance) → IsSolveCall (map string_bytes words.now)
         → IsTold (λ t. InstanceText t.instance i) (D.told desk.old)
         → IsCalm (D.read_faults desk.old) (D.read_faults desk.new)
         → IsCalm (D.write_faults desk.old) (D.write_faults desk.new)
         → IsCalm (L.faults slots.old) (L.faults slots.new) → IsSolved result }
+    ensures judges { (i : instances.Instance) → IsVerifyCall (map string_bytes words.now)
+        → IsTold (λ t. InstanceText t.instance i) (D.told desk.old)
+        → IsCalm (D.read_faults desk.old) (D.read_faults desk.new)
+        → IsCalm (D.write_faults desk.old) (D.write_faults desk.new) → IsJudged result }
+    ensures accepted { (i : instances.Instance) → (l : ℕ) → IsVerifyCall (map string_bytes words.now)
+        → IsTold (λ t. InstanceText t.instance i × IsAcceptedText i t.proof_in l) (D.told desk.old)
+        → IsCalm (D.read_faults desk.old) (D.read_faults desk.new)
+        → IsCalm (D.write_faults desk.old) (D.write_faults desk.new) → IsVerified result }
 {
     match read_command(alloc, words) {
         Ok(Command::Solve(solve)) => merge(solve_instance(alloc, &solve, desk, slots)),
+        Ok(Command::Verify(words)) => status_of(verify(alloc, &words, desk)),
         Err(WordsError::Usage) => usage(desk),
         Err(WordsError::NoMemory) => Status::NoMemory,
     }
@@ -103,6 +128,7 @@ fn solve_instance<D: Desk, L: Slots>(
     ensures desk { BothTell (EndsDesk (names_in solve.now) (L.told slots.new) (either result)) (D.told desk.old) (D.told desk.new) }
     ensures slots { BothTell (EndsSlots (names_in solve.now) (either result)) (L.told slots.old) (L.told slots.new) }
     ensures status { either result ≢ Status.Usage }
+    ensures other { (either result ≢ Status.Verified) × (either result ≢ Status.Refused) }
     ensures reads { Cause (either result ≡ Status.ReadFault) (D.read_faults desk.old) (D.read_faults desk.new) }
     ensures writes { Cause (either result ≡ Status.WriteFault) (D.write_faults desk.old) (D.write_faults desk.new) }
     ensures store { Cause (either result ≡ Status.StoreFault) (L.faults slots.old) (L.faults slots.new) }
@@ -118,24 +144,6 @@ fn solve_instance<D: Desk, L: Slots>(
                 Err(_) => Err(Status::NoMemory),
             }
         }
-    }
-}
-
-/// Prints the first refusal of an instance's text.
-fn refuse<D: Desk>(alloc: Global, desk: &mut D, refusal: Refusal) -> Result<Status, Status>
-    ensures refused { either result ≡ Status.BadInstance
-        → BothTell (Adds Outlet.Text (texts.instance_text refusal)) (D.told desk.old) (D.told desk.new) }
-    ensures torn { either result ≡ Status.WriteFault
-        → (k : ℕ) × BothTell (Adds Outlet.Text (take k (texts.instance_text refusal))) (D.told desk.old) (D.told desk.new) }
-    ensures silent { either result ≡ Status.NoMemory → D.told desk.new ≡ D.told desk.old }
-    ensures status { IsRefuseStatus (either result) }
-    ensures cause { Cause (either result ≡ Status.WriteFault) (D.write_faults desk.old) (D.write_faults desk.new) }
-    ensures same { D.read_faults desk.new ≡ D.read_faults desk.old }
-{
-    let printed = instance_text(alloc, refusal)?;
-    match write_all(desk, Outlet::Text, &printed) {
-        Ok(()) => Ok(Status::BadInstance),
-        Err(_) => Err(Status::WriteFault),
     }
 }
 

@@ -1,28 +1,34 @@
 //! How a run ends.
 ghost use Rattle.std.specs.Prelude.{◌≡◌};
 ghost use Rattle.tspengine.specs.Codes.{code_of};
+ghost use Rattle.tspengine.specs.Readings.{status_of};
 
 use std::alloc::AllocError;
+use verification::VerifyStatus;
 
-/// How a run ends, with the program's exit status.
+/// How a run ends.
 #[derive(Clone, Copy, Debug, PartialEq, Eq)]
 pub enum Status {
     /// A shortest tour was printed, and its proof written.
-    Optimal = 0,
+    Optimal,
+    /// The proof is accepted: no tour is shorter than the printed length.
+    Verified,
     /// The words are not of a command's form.
-    Usage = 2,
+    Usage,
     /// The bytes of the instance are not an instance's text.
-    BadInstance = 3,
+    BadInstance,
+    /// The bytes of the proof are no proof for the instance; the first refusal and its line were printed.
+    Refused,
     /// The budget is spent and a node is open; the slots hold a body to go on from.
-    Stopped = 5,
-    /// The instance could not be opened or read.
-    ReadFault = 6,
+    Stopped,
+    /// The instance, or the proof to be verified, could not be opened or read.
+    ReadFault,
     /// The proof could not be opened, or it or the text not written.
-    WriteFault = 7,
+    WriteFault,
     /// The slots could not be bound, read, written or synced.
-    StoreFault = 8,
+    StoreFault,
     /// Memory ran out.
-    NoMemory = 9,
+    NoMemory,
 }
 
 impl Status {
@@ -30,7 +36,32 @@ impl Status {
     pub fn code(self) -> u8
         ensures { result ≡ code_of self }
     {
-        self as u8
+        match self {
+            Status::Optimal | Status::Verified => 0,
+            Status::Usage => 2,
+            Status::BadInstance => 3,
+            Status::Refused => 4,
+            Status::Stopped => 5,
+            Status::ReadFault => 6,
+            Status::WriteFault => 7,
+            Status::StoreFault => 8,
+            Status::NoMemory => 9,
+        }
+    }
+}
+
+/// The status of a run that ends as the verifier does.
+pub(crate) fn status_of(status: VerifyStatus) -> Status
+    ensures { result ≡ status_of status }
+{
+    match status {
+        VerifyStatus::Verified => Status::Verified,
+        VerifyStatus::Usage => Status::Usage,
+        VerifyStatus::BadInstance => Status::BadInstance,
+        VerifyStatus::Refused => Status::Refused,
+        VerifyStatus::ReadFault => Status::ReadFault,
+        VerifyStatus::WriteFault => Status::WriteFault,
+        VerifyStatus::NoMemory => Status::NoMemory,
     }
 }
 

@@ -88,6 +88,29 @@ fn solved(alloc: Global, line: &str, text: &str) -> Result<Ended, AllocError> {
     run_with(alloc, line, text, &NONE)
 }
 
+/// Verifies the bytes of a proof, beside slots that hold something.
+fn verified(alloc: Global, text: &str, proof: &[u8]) -> Result<Ended, AllocError> {
+    let mut desk = MemDesk::new(
+        alloc,
+        text.as_bytes(),
+        proof,
+        4096,
+        65_536,
+        &[],
+        &[],
+        &[],
+        ROOM,
+    )?;
+    let mut slots = MemSlots::new(alloc, b"old", b"new", &[], ROOM)?;
+    let words = words(alloc, "tspc verify a b")?;
+    let status = run(&(), alloc, &words, &mut desk, &mut slots);
+    Ok(Ended {
+        status,
+        desk,
+        slots,
+    })
+}
+
 fn is_bound_to(path: Option<&[u8]>, word: &[u8]) -> bool {
     match path {
         Some(path) => path == word,
@@ -131,6 +154,26 @@ fn small_instances_are_solved(rt: HostRuntime) -> Result<(), Fail> {
         point.desk.proof(),
         b"TSPCERT 1\nN 4\nLENGTH 0\nTOUR 1 2 3 4\nCUTS 0\nL 0 0 0\n".as_slice()
     );
+    Ok(())
+}
+
+#[test]
+fn proofs_are_verified_and_refused(rt: HostRuntime) -> Result<(), Fail> {
+    let alloc = rt.alloc();
+    let square = solved(alloc, "tspc solve a b c", SQUARE)?;
+    let checked = verified(alloc, SQUARE, square.desk.proof())?;
+    assert_eq!(rt; checked.status, Status::Verified);
+    assert_eq!(rt; checked.text(), b"VERIFIED 40\n".as_slice());
+    assert_eq!(rt; checked.desk.proof(), b"".as_slice());
+    assert_eq!(rt; checked.slots.slot(0), b"old".as_slice());
+    assert_eq!(rt; checked.slots.slot(1), b"new".as_slice());
+    assert_eq!(rt; checked.slots.entries().len(), 0);
+    let refused = verified(alloc, SQUARE, b"")?;
+    assert_eq!(rt; refused.status, Status::Refused);
+    assert_eq!(rt; refused.text(), b"REFUSED 1 1\n".as_slice());
+    let bad = verified(alloc, "", square.desk.proof())?;
+    assert_eq!(rt; bad.status, Status::BadInstance);
+    assert_eq!(rt; bad.text(), b"INSTANCE 13 0 1\n".as_slice());
     Ok(())
 }
 
@@ -213,6 +256,8 @@ fn other_words_are_usage(rt: HostRuntime) -> Result<(), Fail> {
         "tspc --help",
         "tspc solve --help",
         "tspc solve a b c d",
+        "tspc verify a",
+        "tspc verify a b c",
     ] {
         let ended = solved(alloc, line, SQUARE)?;
         assert_eq!(rt; ended.status, Status::Usage);
@@ -403,6 +448,10 @@ fn random_instances_have_the_length_of_the_least_tour(rt: HostRuntime) -> Result
         assert_eq!(rt; ended.status, Status::Optimal);
         let want = format!(in alloc; "OPTIMAL {length}\nTOUR 1 ")?;
         assert!(rt; ended.text().starts_with(want.as_bytes()));
+        let checked = verified(alloc, &text, ended.desk.proof())?;
+        assert_eq!(rt; checked.status, Status::Verified);
+        let told = format!(in alloc; "VERIFIED {length}\n")?;
+        assert_eq!(rt; checked.text(), told.as_bytes());
     }
     Ok(())
 }
@@ -411,8 +460,10 @@ fn random_instances_have_the_length_of_the_least_tour(rt: HostRuntime) -> Result
 fn statuses_have_their_codes(rt: HostRuntime) -> Result<(), Fail> {
     let codes = [
         (Status::Optimal, 0),
+        (Status::Verified, 0),
         (Status::Usage, 2),
         (Status::BadInstance, 3),
+        (Status::Refused, 4),
         (Status::Stopped, 5),
         (Status::ReadFault, 6),
         (Status::WriteFault, 7),

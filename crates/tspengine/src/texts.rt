@@ -4,7 +4,6 @@ ghost use Rattle.tspengine.specs.Texts as texts;
 ghost use Rattle.tspengine.specs.Texts.{cities_text};
 
 use std::alloc::{AllocError, Global};
-use tspinst::Refusal;
 
 /// What is printed where the words are not of a command's form.
 pub(crate) const USAGE: &str = "USAGE tspc solve/verify/tour/bench\n";
@@ -35,11 +34,4 @@ pub(crate) fn stopped_text(alloc: Global, best: u64, open_nodes: u32) -> Result<
     ensures { IfOk result (λ t. t.items ≡ texts.stopped_text best open_nodes) }
 {
     Ok(format!(in alloc; "STOPPED {best} {open_nodes}\n")?.into_bytes())
-}
-
-/// The first refusal of an instance's text.
-pub(crate) fn instance_text(alloc: Global, refusal: Refusal) -> Result<Vec<u8>, AllocError>
-    ensures { IfOk result (λ t. t.items ≡ texts.instance_text refusal) }
-{
-    Ok(format!(in alloc; "INSTANCE {refusal}\n")?.into_bytes())
 }

@@ -13,8 +13,9 @@ use Rattle.clap.specs.declared.parser.matches.ValueSource.TheVariants.{DefaultVa
 use Rattle.clap.specs.declared.builder.value_parser.Reading.TheVariants as reading
 use Rattle.clap.specs.Values.{IsUnsignedIn}
 use Rattle.clap.specs.ValueTests.{is_unsigned_in}
-use Rattle.tspwords.specs.Program.{IsTaken, rows_of_words, most_budget}
-use Rattle.tspwords.specs.Laws.{IsPlain, PathsAreTaken, BudgetsAreTaken}
+use Rattle.clap.specs.Simple.{matches_of}
+use Rattle.tspwords.specs.Program.{IsTaken, IsVerifierCall, command_word, rows_of_words, most_budget, verifier}
+use Rattle.tspwords.specs.Laws.{IsPlain, PathsAreTaken, BudgetsAreTaken, VerifyIsTaken, VerifierIsTaken}
 use Rattle.tspwords.proofs.Budgets.{in_unsigned}
 
 no_hyphen : (word : Text) → IsPlain word → strip_byte 45 word ≡ None
@@ -53,10 +54,14 @@ unfolding clap_on_literals
 rows_are name a b c pa pb pc =
     rw (not_dashes a pa, not_long a pa, not_short a pa, not_dashes b pb, not_long b pb, not_short b pb, not_dashes c pc, not_long c pc, not_short c pc) refl
 
+named_solve : (name a b c : Text) → command_word (name ∷ codes "solve" ∷ a ∷ b ∷ c ∷ []) ≡ codes "solve"
+unfolding clap_on_literals
+named_solve name a b c = refl
+
 pub paths_taken : PathsAreTaken
 paths_taken name a b c pa pb pc =
     let rows = rows_are name a b c pa pb pc in record {
-      taken = fault_free name a b c pa pb pc;
+      call = record { taken = fault_free name a b c pa pb pc; named = named_solve name a b c };
       instance_is = rw rows refl;
       proof_is = rw rows refl;
       restart_is = rw rows refl;
@@ -84,14 +89,56 @@ unfolding clap_on_literals
 budget_rows_are name a b c d pa pb pc pd =
     rw (not_dashes a pa, not_long a pa, not_short a pa, not_dashes b pb, not_long b pb, not_short b pb, not_dashes c pc, not_long c pc, not_short c pc, not_dashes d pd, not_long d pd, not_short d pd) refl
 
+named_budget : (name a b c d : Text) → command_word (name ∷ codes "solve" ∷ a ∷ b ∷ c ∷ codes "--budget" ∷ d ∷ []) ≡ codes "solve"
+unfolding clap_on_literals
+named_budget name a b c d = refl
+
 pub budgets_taken : BudgetsAreTaken
 budgets_taken name a b c d pa pb pc fits =
     let pd = number_is_plain d fits in
     let is = in_unsigned d fits in
     let rows = budget_rows_are name a b c d pa pb pc pd in record {
-      taken = budget_fault_free name a b c d pa pb pc pd is;
+      call = record { taken = budget_fault_free name a b c d pa pb pc pd is; named = named_budget name a b c d };
       instance_is = rw rows refl;
       proof_is = rw rows refl;
       restart_is = rw rows refl;
       budget_is = rw rows refl;
+    }
+
+-- ---- `verify` and the verifier
+
+verify_fault_free : (name a b : Text) → IsPlain a → IsPlain b → IsTaken (name ∷ codes "verify" ∷ a ∷ b ∷ [])
+unfolding clap_on_literals
+verify_fault_free name a b pa pb = rw (not_dashes a pa, not_long a pa, not_short a pa, not_dashes b pb, not_long b pb, not_short b pb) refl
+
+verify_rows_are : (name a b : Text) → IsPlain a → IsPlain b → rows_of_words (name ∷ codes "verify" ∷ a ∷ b ∷ []) ≡ given (codes "instance") a ∷ given (codes "proof") b ∷ []
+unfolding clap_on_literals
+verify_rows_are name a b pa pb = rw (not_dashes a pa, not_long a pa, not_short a pa, not_dashes b pb, not_long b pb, not_short b pb) refl
+
+named_verify : (name a b : Text) → command_word (name ∷ codes "verify" ∷ a ∷ b ∷ []) ≡ codes "verify"
+unfolding clap_on_literals
+named_verify name a b = refl
+
+pub verify_taken : VerifyIsTaken
+verify_taken name a b pa pb =
+    let rows = verify_rows_are name a b pa pb in record {
+      call = record { taken = verify_fault_free name a b pa pb; named = named_verify name a b };
+      instance_is = rw rows refl;
+      proof_is = rw rows refl;
+    }
+
+verifier_fault_free : (name a b : Text) → IsPlain a → IsPlain b → IsVerifierCall (name ∷ a ∷ b ∷ [])
+unfolding clap_on_literals
+verifier_fault_free name a b pa pb = rw (not_dashes a pa, not_long a pa, not_short a pa, not_dashes b pb, not_long b pb, not_short b pb) refl
+
+verifier_rows_are : (name a b : Text) → IsPlain a → IsPlain b → matches_of verifier (name ∷ a ∷ b ∷ []) ≡ given (codes "instance") a ∷ given (codes "proof") b ∷ []
+unfolding clap_on_literals
+verifier_rows_are name a b pa pb = rw (not_dashes a pa, not_long a pa, not_short a pa, not_dashes b pb, not_long b pb, not_short b pb) refl
+
+pub verifier_words_taken : VerifierIsTaken
+verifier_words_taken name a b pa pb =
+    let rows = verifier_rows_are name a b pa pb in record {
+      call = verifier_fault_free name a b pa pb;
+      instance_is = rw rows refl;
+      proof_is = rw rows refl;
     }

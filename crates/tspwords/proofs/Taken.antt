@@ -1,5 +1,5 @@
 -- What words that are taken give.
-use Rattle.std.proofs.Common.{◌≡◌, ◌<◌, ◌||◌, Bool, true, false, cond, List, [], ◌∷◌, ◌++◌, length, fold, refl, sym, ap, subst, ◌∙◌, arith, not, inl, inr, Option, Some, None, is_some, codes}
+use Rattle.std.proofs.Common.{◌≡◌, ◌<◌, ◌||◌, ◌&&◌, ◌⊎◌, Bool, true, false, cond, List, [], ◌∷◌, ◌++◌, length, fold, refl, sym, ap, subst, ◌∙◌, arith, not, inl, inr, Option, Some, None, is_some, codes, Result, Ok, Err, IfOk}
 use Rattle.std.specs.Prelude.{find, slice_get, unwrap_or, option_and_then, option_map}
 use Rattle.std.specs.Option.{option_map_or}
 use Rattle.std.specs.List.{list_any, slice_index_or}
@@ -9,18 +9,23 @@ use Rattle.clap.specs.Facts.{explicit_source, parser_of_value}
 use Rattle.clap.specs.Kinds.{Kinds, check_kinds, or_else, value_kinds, values_kinds}
 use Rattle.clap.specs.Values.{refused_kind}
 use Rattle.clap.specs.ValueTests.{accepts, is_unsigned_in}
-use Rattle.clap.specs.Walk.{Row, Rule, Text, answers_to, arg_by_id, default_rows, finished, first_of, has_row, more_values, nothing_held, reading_by, rows_after, settled, walk, with_default, with_values}
-use Rattle.clap.specs.Simple.{Shape, argument_words, built, built_leaf, entered, help_rule, inherited, label_of, names_of, rows_at}
+use Rattle.clap.specs.Walk.{Row, Rule, Text, answers_to, arg_by_id, default_rows, finished, first_of, has_row, more_values, nothing_held, reading_by, rows_after, rows_of, settled, walk, with_default, with_values}
+use Rattle.std.specs.Box.{box_value}
+use Rattle.clap.specs.Matches.{found_of, has_subcommand, subcommand_name_of}
+use Rattle.clap.specs.declared.parser.matches.ArgMatches.{ArgMatches}
+use Rattle.clap.specs.declared.parser.matches.ArgMatches.TheViews.{out-ArgMatches, out-SubCommand}
+use Rattle.clap.specs.Simple.{App, Shape, argument_words, matches_of, subcommand_of, subcommand_rows_of, built, built_leaf, entered, help_rule, inherited, label_of, names_of, rows_at}
 use Rattle.clap.specs.Takes.{is_given}
-use Rattle.clap.specs.Faults.{check_fault, entered_fault, level_fault, values_fault}
+use Rattle.clap.specs.Faults.{check_fault, entered_fault, fault_of, level_fault, values_fault}
 use Rattle.clap.specs.declared.builder.value_parser.Reading.{Reading}
 use Rattle.clap.specs.declared.parser.matches.ValueSource.{ValueSource}
 use Rattle.clap.specs.declared.parser.matches.ValueSource.TheVariants.{DefaultValue}
-use Rattle.tspwords.specs.Program.{program, IsTaken, rows_of_words, word_in, word_for, most_budget, number_of, solve_shape}
-use Rattle.tspwords.specs.Laws.{TakenWordsAreGiven}
-use Rattle.tspwords.specs.Found.{IsSolveOf, budget_in}
-use Rattle.tspwords.specs.Says.{SaysSolve}
+use Rattle.tspwords.specs.Program.{program, verifier, IsTaken, IsVerifierCall, command_word, rows_of_words, word_in, word_for, most_budget, number_of, solve_shape, verify_shape}
+use Rattle.tspwords.specs.Laws.{TakenWordsAreGiven, VerifierWordsAreGiven}
+use Rattle.tspwords.specs.Found.{IsSolveOf, IsVerifyOf, budget_in}
+use Rattle.tspwords.specs.Says.{SaysSolve, SaysVerify, SaysPaths}
 use Rattle.tspwords.specs.declared.words.Solve.{Solve}
+use Rattle.tspwords.specs.declared.words.VerifyWords.{VerifyWords}
 use Rattle.tspwords.proofs.Budgets.{unsigned_in}
 use Rattle.tspwords.proofs.Given.{Each, IsGood, ArePlain, IsFound, first_free, level_found}
 
@@ -28,11 +33,25 @@ use Rattle.tspwords.proofs.Given.{Each, IsGood, ArePlain, IsFound, first_free, l
 abbrev pub solve_built : Shape
 solve_built = built_leaf (inherited (built program).top solve_shape)
 
-only_sub : (built program).subs ≡ solve_built ∷ []
-only_sub = refl
+-- `verify` as the parser has it
+abbrev pub verify_built : Shape
+verify_built = built_leaf (inherited (built program).top verify_shape)
+
+subs_are : (built program).subs ≡ solve_built ∷ verify_built ∷ []
+subs_are = refl
+
+-- the verifier as the parser has it
+abbrev pub verifier_built : Shape
+verifier_built = (built verifier).top
 
 solve_plain : ArePlain solve_built.rules
 solve_plain = (record { own = refl; kind = inl (record { set = refl; least = refl; most = refl }) }, (record { own = refl; kind = inl (record { set = refl; least = refl; most = refl }) }, (record { own = refl; kind = inl (record { set = refl; least = refl; most = refl }) }, (record { own = refl; kind = inl (record { set = refl; least = refl; most = refl }) }, (record { own = refl; kind = inr refl }, tt)))))
+
+verify_plain : ArePlain verify_built.rules
+verify_plain = (record { own = refl; kind = inl (record { set = refl; least = refl; most = refl }) }, (record { own = refl; kind = inl (record { set = refl; least = refl; most = refl }) }, (record { own = refl; kind = inr refl }, tt)))
+
+verifier_plain : ArePlain verifier_built.rules
+verifier_plain = (record { own = refl; kind = inl (record { set = refl; least = refl; most = refl }) }, (record { own = refl; kind = inl (record { set = refl; least = refl; most = refl }) }, (record { own = refl; kind = inr refl }, tt)))
 
 -- ---- a word that has to be there
 
@@ -139,12 +158,12 @@ pub record IsWhole (rows : List Row) : Type 0 where
 word_is : (id : Text) (rows : List Row) (v : Text) → first_of id rows ≡ Some v → first_of id rows ≡ Some (word_in id rows)
 word_is id rows v e = e ∙ ap (λ o. Some (unwrap_or o [])) (sym e)
 
-path_whole : (words : List Text) (id : Text) (a : Rule) → arg_by_id solve_built.rules id ≡ Some a → IsFound solve_built words → is_given id (rows_after solve_built.rules [] words) ≡ true
-    → first_of id (rows_after solve_built.rules [] words) ≡ Some (word_in id (rows_after solve_built.rules [] words))
-path_whole words id a own found given =
-    let rows = rows_after solve_built.rules [] words in
+path_whole : (s : Shape) (words : List Text) (id : Text) (a : Rule) → arg_by_id s.rules id ≡ Some a → IsFound s words → is_given id (rows_after s.rules [] words) ≡ true
+    → first_of id (rows_after s.rules [] words) ≡ Some (word_in id (rows_after s.rules [] words))
+path_whole s words id a own found given =
+    let rows = rows_after s.rules [] words in
     let r = given_row id rows given in
-    let w = word_found solve_built.rules id rows a r.0 own found.good r.1 in
+    let w = word_found s.rules id rows a r.0 own found.good r.1 in
     word_is id rows w.word w.first
 
 budget_whole : (words : List Text) → IsFound solve_built words → is_unsigned_in 0 most_budget (word_in (codes "budget") (rows_after solve_built.rules [] words)) ≡ true
@@ -159,13 +178,67 @@ pub solve_whole : (words : List Text) → IsFound solve_built words → IsWhole 
 solve_whole words found =
     let rows = rows_after solve_built.rules [] words in
     let given = three_given (is_given (codes "instance") rows) (is_given (codes "proof") rows) (is_given (codes "restart") rows) found.checked in record {
-      instance = path_whole words (codes "instance") (slice_index_or solve_built.rules 0 help_rule) refl found given.0;
-      proof = path_whole words (codes "proof") (slice_index_or solve_built.rules 1 help_rule) refl found given.1;
-      restart = path_whole words (codes "restart") (slice_index_or solve_built.rules 2 help_rule) refl found given.2;
+      instance = path_whole solve_built words (codes "instance") (slice_index_or solve_built.rules 0 help_rule) refl found given.0;
+      proof = path_whole solve_built words (codes "proof") (slice_index_or solve_built.rules 1 help_rule) refl found given.1;
+      restart = path_whole solve_built words (codes "restart") (slice_index_or solve_built.rules 2 help_rule) refl found given.2;
       budget = budget_whole words found;
     }
 
+-- ---- the words of `verify` and of the verifier
+
+two_given : (x y : Bool) → check_kinds false false (not x || (not y || false)) ≡ [] → (x ≡ true) × (y ≡ true)
+two_given true true e = (refl, refl)
+two_given true false e = cc
+two_given false y e = cc
+
+-- what is found for two paths
+pub record HasPaths (rows : List Row) : Type 0 where
+  pub instance : first_of (codes "instance") rows ≡ Some (word_in (codes "instance") rows)
+  pub proof : first_of (codes "proof") rows ≡ Some (word_in (codes "proof") rows)
+
+verify_whole : (words : List Text) → IsFound verify_built words → HasPaths (rows_after verify_built.rules [] words)
+verify_whole words found =
+    let rows = rows_after verify_built.rules [] words in
+    let given = two_given (is_given (codes "instance") rows) (is_given (codes "proof") rows) found.checked in record {
+      instance = path_whole verify_built words (codes "instance") (slice_index_or verify_built.rules 0 help_rule) refl found given.0;
+      proof = path_whole verify_built words (codes "proof") (slice_index_or verify_built.rules 1 help_rule) refl found given.1;
+    }
+
+verifier_whole : (words : List Text) → IsFound verifier_built words → HasPaths (rows_after verifier_built.rules [] words)
+verifier_whole words found =
+    let rows = rows_after verifier_built.rules [] words in
+    let given = two_given (is_given (codes "instance") rows) (is_given (codes "proof") rows) found.checked in record {
+      instance = path_whole verifier_built words (codes "instance") (slice_index_or verifier_built.rules 0 help_rule) refl found given.0;
+      proof = path_whole verifier_built words (codes "proof") (slice_index_or verifier_built.rules 1 help_rule) refl found given.1;
+    }
+
+-- the verifier has no command, wherever its words stop
+verifier_level : (given : List Text) (stop : Option (Text × List Text)) → level_fault verifier_built [] nothing_held given (is_some (entered (built verifier) stop)) (entered_fault (built verifier) stop) ≡ []
+    → level_fault verifier_built [] nothing_held given false [] ≡ []
+verifier_level given None e = e
+verifier_level given (Some p) e = e
+
+pub verifier_taken : (words : List Text) → IsVerifierCall words → HasPaths (matches_of verifier words)
+verifier_taken words taken =
+    let given = argument_words verifier words in
+    verifier_whole given (level_found verifier_built given verifier_plain (verifier_level given (walk verifier_built.rules [] nothing_held given).stopped taken))
+
+pub verifier_given : VerifierWordsAreGiven
+verifier_given words taken = let whole = verifier_taken words taken in record { instance = whole.instance; proof = whole.proof }
+
 -- ---- the program
+
+-- the words name this command, and its arguments are found
+record IsWholeSolve (name : Text) (rows : List Row) : Type 0 where
+  named : name ≡ codes "solve"
+  whole : IsWhole rows
+
+record IsWholeVerify (name : Text) (rows : List Row) : Type 0 where
+  named : name ≡ codes "verify"
+  paths : HasPaths rows
+
+abbrev IsWholeCall : Option (Text × List Row) → Type 0
+IsWholeCall o = IsWholeSolve (option_map_or (λ p. p.0) o []) (option_map_or (λ p. p.1) o []) ⊎ IsWholeVerify (option_map_or (λ p. p.0) o []) (option_map_or (λ p. p.1) o [])
 
 four_free : (w b s d c : Kinds) → or_else w (or_else b (or_else s (or_else d c))) ≡ [] → (b ≡ []) × (c ≡ [])
 four_free [] [] [] [] c e = (refl, e)
@@ -178,17 +251,18 @@ no_command : (rows : List Row) → check_fault (built program).top rows false �
 no_command rows e = cc
 
 entered_whole : (rows : List Row) (stop : Option (Text × List Text)) → entered_fault (built program) stop ≡ [] → check_fault (built program).top rows (is_some (entered (built program) stop)) ≡ []
-    → IsWhole (option_map_or (λ p. p.1) (entered (built program) stop) [])
+    → IsWholeCall (entered (built program) stop)
 entered_whole rows None below checks = absurd (no_command rows checks)
-entered_whole rows (Some p) below checks = go (answers_to p.0 (label_of solve_built)) below checks
+entered_whole rows (Some p) below checks = go (answers_to p.0 (label_of solve_built)) (answers_to p.0 (label_of verify_built)) below checks
   where
-    go : (b : Bool) → option_map_or (λ s. level_fault s [] nothing_held p.1 false []) (cond b (Some solve_built) None) [] ≡ []
-        → check_fault (built program).top rows (is_some (option_map (λ s. rows_at s p.1) (cond b (Some solve_built) None))) ≡ []
-        → IsWhole (option_map_or (λ p. p.1) (option_map (λ s. rows_at s p.1) (cond b (Some solve_built) None)) [])
-    go true below checks = solve_whole p.1 (level_found solve_built p.1 solve_plain below)
-    go false below checks = absurd (no_command rows checks)
+    go : (b v : Bool) → option_map_or (λ s. level_fault s [] nothing_held p.1 false []) (cond b (Some solve_built) (cond v (Some verify_built) None)) [] ≡ []
+        → check_fault (built program).top rows (is_some (option_map (λ s. rows_at s p.1) (cond b (Some solve_built) (cond v (Some verify_built) None)))) ≡ []
+        → IsWholeCall (option_map (λ s. rows_at s p.1) (cond b (Some solve_built) (cond v (Some verify_built) None)))
+    go true v below checks = inl (record { named = refl; whole = solve_whole p.1 (level_found solve_built p.1 solve_plain below) })
+    go false true below checks = inr (record { named = refl; paths = verify_whole p.1 (level_found verify_built p.1 verify_plain below) })
+    go false false below checks = absurd (no_command rows checks)
 
-pub taken_whole : (words : List Text) → IsTaken words → IsWhole (rows_of_words words)
+taken_whole : (words : List Text) → IsTaken words → IsWholeCall (subcommand_of program words)
 taken_whole words taken =
     let given = argument_words program words in
     let all = walk (built program).top.rules (names_of (built program)) nothing_held given in
@@ -196,20 +270,44 @@ taken_whole words taken =
     entered_whole (finished (built program).top.rules all.held) all.stopped parts.0 parts.1
 
 pub taken_given : TakenWordsAreGiven
-taken_given words taken =
-    let whole = taken_whole words taken in record {
-      instance = whole.instance;
-      proof = whole.proof;
-      restart = whole.restart;
-      budget = unsigned_in (word_for (codes "budget") words) whole.budget;
-    }
+taken_given words taken = elim (taken_whole words taken) [
+  | inl solve ↦ inl (record {
+    named = record { taken = taken; named = solve.named };
+    instance = solve.whole.instance;
+    proof = solve.whole.proof;
+    restart = solve.whole.restart;
+    budget = unsigned_in (word_for (codes "budget") words) solve.whole.budget;
+  })
+  | inr verify ↦ inr (record {
+    named = record { taken = taken; named = verify.named };
+    instance = verify.paths.instance;
+    proof = verify.paths.proof;
+  })
+]
+
+-- the words name the command that was found
+whole_solve : (words : List Text) → IsTaken words → command_word words ≡ codes "solve" → IsWhole (rows_of_words words)
+whole_solve words taken is = elim (taken_whole words taken) [
+  | inl solve ↦ solve.whole
+  | inr verify ↦ absurd (other (sym is ∙ verify.named))
+]
+  where
+    other : codes "solve" ≡ codes "verify" → ⊥
+    other e = cc
+
+pub verify_named : (words : List Text) → IsTaken words → (command_word words ≡ codes "solve" → ⊥) → command_word words ≡ codes "verify"
+verify_named words taken other = elim (taken_whole words taken) [
+  | inl solve ↦ absurd (other solve.named)
+  | inr verify ↦ verify.named
+]
 
 -- a call that was found, where the words are taken
-pub says_solve : (words : List Text) (rows : List Row) (s : Solve) → IsTaken words → rows ≡ rows_of_words words → IsSolveOf rows s → SaysSolve words s
-says_solve words rows s taken same found =
-    let whole = taken_whole words taken in
+pub says_solve : (words : List Text) (rows : List Row) (s : Solve) → IsTaken words → command_word words ≡ codes "solve" → rows ≡ rows_of_words words → IsSolveOf rows s → SaysSolve words s
+says_solve words rows s taken is same found =
+    let whole = whole_solve words taken is in
     let budget : budget_in (word_for (codes "budget") words) ≡ number_of (word_for (codes "budget") words) =
     ap (λ b. cond b (number_of (word_for (codes "budget") words)) most_budget) whole.budget in record {
+      named = is;
       instance = found.instance ∙ ap (word_in (codes "instance")) same;
       proof = found.proof ∙ ap (word_in (codes "proof")) same;
       restart = found.restart ∙ ap (word_in (codes "restart")) same;
@@ -217,7 +315,62 @@ says_solve words rows s taken same found =
       few = found.few;
     }
 
--- the rows of the subcommand that was found
+pub says_verify : (words : List Text) (rows : List Row) (v : VerifyWords) → IsTaken words → (command_word words ≡ codes "solve" → ⊥) → rows ≡ rows_of_words words → IsVerifyOf rows v → SaysVerify words v
+says_verify words rows v taken other same found = record {
+  named = verify_named words taken other;
+  instance = found.instance ∙ ap (word_in (codes "instance")) same;
+  proof = found.proof ∙ ap (word_in (codes "proof")) same;
+}
+
+pub says_paths : (words : List Text) (rows : List Row) (v : VerifyWords) → rows ≡ matches_of verifier words → IsVerifyOf rows v → SaysPaths words v
+says_paths words rows v same found = record {
+  instance = found.instance ∙ ap (word_in (codes "instance")) same;
+  proof = found.proof ∙ ap (word_in (codes "proof")) same;
+}
+
+-- the name and the rows of the subcommand that was found
+pub found_name : (name : Text) (o : Option (Text × List Row)) → Some name ≡ option_map (λ p. p.0) o → name ≡ option_map_or (λ p. p.0) o []
+found_name name None e = cc
+found_name name (Some p) e = cc
+
 pub found_rows : (rows : List Row) (o : Option (Text × List Row)) → Some rows ≡ option_map (λ p. p.1) o → rows ≡ option_map_or (λ p. p.1) o []
 found_rows rows None e = cc
 found_rows rows (Some p) e = cc
+
+-- ---- what the parser gives
+
+pub both_true : (a b : Bool) → (a && b) ≡ true → a ≡ true
+both_true true b e = refl
+both_true false b e = cc
+
+command_there : (o : Option (Text × List Row)) → IsWholeCall o → is_some o ≡ true
+command_there (Some p) whole = refl
+command_there None whole = elim whole [
+  | inl solve ↦ let e = solve.named in cc
+  | inr verify ↦ let e = verify.named in cc
+]
+
+rows_there : {A : Type 0} (f : A → Text × List Row) (o : Option A) → is_some (option_map f o) ≡ is_some o
+rows_there f None = refl
+rows_there f (Some a) = refl
+
+-- a command was met where the words are taken
+pub has_command : (words : List Text) (m : ArgMatches) → IsTaken words → subcommand_rows_of m ≡ subcommand_of program words → has_subcommand m ≡ true
+has_command words m taken rows =
+    sym (rows_there (λ b. ((out-SubCommand (box_value b)).name.now, rows_of (found_of (out-SubCommand (box_value b)).matches))) (out-ArgMatches m).subcommand)
+    ∙ ap is_some rows ∙ command_there (subcommand_of program words) (taken_whole words taken)
+
+pub commands_there : {E : Type 0} (words : List Text) (a : App) (r : Result ArgMatches E) → a ≡ program → IfOk r (λ m. fault_of a words ≡ [])
+    → IfOk r (λ m. subcommand_rows_of m ≡ subcommand_of a words) → IfOk r (λ m. has_subcommand m ≡ true)
+commands_there words a (Ok m) is free rows = has_command words m (subst (λ (x : App). fault_of x words ≡ []) is free) (subst (λ (x : App). subcommand_rows_of m ≡ subcommand_of x words) is rows)
+commands_there words a (Err e) is free rows = tt
+
+same_names : {A : Type 0} (f : A → Text) (g : A → List Row) (o : Option A) → option_map f o ≡ option_map (λ (p : Text × List Row). p.0) (option_map (λ b. (f b, g b)) o)
+same_names f g None = refl
+same_names f g (Some a) = refl
+
+-- the name of the command that was met
+pub name_of_rows : (words : List Text) (m : ArgMatches) → subcommand_rows_of m ≡ subcommand_of program words → subcommand_name_of m ≡ option_map (λ (p : Text × List Row). p.0) (subcommand_of program words)
+name_of_rows words m rows =
+    same_names (λ b. (out-SubCommand (box_value b)).name.now) (λ b. rows_of (found_of (out-SubCommand (box_value b)).matches)) (out-ArgMatches m).subcommand
+    ∙ ap (λ o. option_map (λ (p : Text × List Row). p.0) o) rows

@@ -1,16 +1,17 @@
 -- What words of a command say.
-use Rattle.std.specs.Prelude.{◌≡◌, ◌≢◌, ℕ, List, [], ◌∷◌, Some, codes, slice_index}
+use Rattle.std.specs.Prelude.{◌≡◌, ◌≢◌, ℕ, ◌⊎◌, List, [], ◌∷◌, Some, codes, slice_index}
 use Rattle.clap.specs.Values.{IsUnsignedIn}
 use Rattle.clap.specs.Walk.{Text, first_of}
-use Rattle.tspwords.specs.Program.{IsTaken, most_budget, instance_word, proof_word, restart_word, budget_of, number_of, rows_of_words, word_for}
+use Rattle.clap.specs.Simple.{matches_of}
+use Rattle.tspwords.specs.Program.{IsTaken, IsSolveCall, IsVerifyCall, IsVerifierCall, most_budget, instance_word, proof_word, restart_word, budget_of, number_of, rows_of_words, verifier, verifier_word, word_for}
 
 -- a word that does not begin with a hyphen
 abbrev pub IsPlain : Text → Type 0
 IsPlain word = slice_index word 0 ≢ 45
 
--- the words are taken, with these paths and this budget
+-- the words are a call of `solve`, with these paths and this budget
 pub record AreTaken (words : List Text) (instance proof restart : Text) (budget : ℕ) : Type 0 where
-  pub taken : IsTaken words
+  pub call : IsSolveCall words
   pub instance_is : instance_word words ≡ instance
   pub proof_is : proof_word words ≡ proof
   pub restart_is : restart_word words ≡ restart
@@ -26,12 +27,48 @@ abbrev pub BudgetsAreTaken : Type 0
 BudgetsAreTaken = (name a b c d : Text) → IsPlain a → IsPlain b → IsPlain c → IsUnsignedIn 0 most_budget d
     → AreTaken (name ∷ codes "solve" ∷ a ∷ b ∷ c ∷ codes "--budget" ∷ d ∷ []) a b c (number_of d)
 
--- words that are taken give each path, and a budget within its range or none, for which its default stands
+-- the words are a call of `verify`, with these paths
+pub record AreVerifyTaken (words : List Text) (instance proof : Text) : Type 0 where
+  pub call : IsVerifyCall words
+  pub instance_is : instance_word words ≡ instance
+  pub proof_is : proof_word words ≡ proof
+
+-- `verify` with two paths
+abbrev pub VerifyIsTaken : Type 0
+VerifyIsTaken = (name a b : Text) → IsPlain a → IsPlain b → AreVerifyTaken (name ∷ codes "verify" ∷ a ∷ b ∷ []) a b
+
+-- the words are of the verifier's form, with these paths
+pub record AreVerifierTaken (words : List Text) (instance proof : Text) : Type 0 where
+  pub call : IsVerifierCall words
+  pub instance_is : verifier_word (codes "instance") words ≡ instance
+  pub proof_is : verifier_word (codes "proof") words ≡ proof
+
+-- two paths
+abbrev pub VerifierIsTaken : Type 0
+VerifierIsTaken = (name a b : Text) → IsPlain a → IsPlain b → AreVerifierTaken (name ∷ a ∷ b ∷ []) a b
+
+-- a call of `solve` gives each path, and a budget within its range or none, for which its default stands
 pub record AreGiven (words : List Text) : Type 0 where
+  pub named : IsSolveCall words
   pub instance : first_of (codes "instance") (rows_of_words words) ≡ Some (instance_word words)
   pub proof : first_of (codes "proof") (rows_of_words words) ≡ Some (proof_word words)
   pub restart : first_of (codes "restart") (rows_of_words words) ≡ Some (restart_word words)
   pub budget : IsUnsignedIn 0 most_budget (word_for (codes "budget") words)
 
+-- a call of `verify` gives both paths
+pub record AreVerifyGiven (words : List Text) : Type 0 where
+  pub named : IsVerifyCall words
+  pub instance : first_of (codes "instance") (rows_of_words words) ≡ Some (instance_word words)
+  pub proof : first_of (codes "proof") (rows_of_words words) ≡ Some (proof_word words)
+
+-- words that are taken are a call of a command
 abbrev pub TakenWordsAreGiven : Type 0
-TakenWordsAreGiven = (words : List Text) → IsTaken words → AreGiven words
+TakenWordsAreGiven = (words : List Text) → IsTaken words → AreGiven words ⊎ AreVerifyGiven words
+
+-- words of the verifier's form give both paths
+pub record AreVerifierGiven (words : List Text) : Type 0 where
+  pub instance : first_of (codes "instance") (matches_of verifier words) ≡ Some (verifier_word (codes "instance") words)
+  pub proof : first_of (codes "proof") (matches_of verifier words) ≡ Some (verifier_word (codes "proof") words)
+
+abbrev pub VerifierWordsAreGiven : Type 0
+VerifierWordsAreGiven = (words : List Text) → IsVerifierCall words → AreVerifierGiven words

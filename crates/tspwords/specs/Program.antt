@@ -1,9 +1,10 @@
--- The command line of the solver, as the parser of command lines is given it, and what words mean there.
+-- The command lines of the solver and of the verifier, as the parser of command lines is given them, and what words mean
+-- there.
 use Rattle.std.specs.Prelude.{◌≡◌, ℕ, List, [], ◌∷◌, Some, codes, unwrap_or, true}
 use Rattle.std.specs.Option.{option_map_or}
 use Rattle.std.specs.Str.Parse.{digits_value, without_leading_plus}
 use Rattle.clap.specs.Walk.{Row, Rule, Text, first_of}
-use Rattle.clap.specs.Simple.{App, Shape, new_rule, new_shape, subcommand_of, with_subcommand}
+use Rattle.clap.specs.Simple.{App, Shape, matches_of, new_rule, new_shape, subcommand_of, with_subcommand}
 use Rattle.clap.specs.Faults.{fault_of}
 use Rattle.clap.specs.declared.builder.value_parser.ValueParser.TheVariants as parser
 
@@ -29,16 +30,37 @@ solve_shape = record (new_shape (codes "solve")) {
   rules = path_rule (codes "instance") ∷ path_rule (codes "proof") ∷ path_rule (codes "restart") ∷ budget_rule ∷ [];
 }
 
+-- `verify INSTANCE PROOF`
+abbrev pub verify_shape : Shape
+verify_shape = record (new_shape (codes "verify")) {
+  rules = path_rule (codes "instance") ∷ path_rule (codes "proof") ∷ [];
+}
+
 -- the program: one of its commands has to be named
 abbrev pub program : App
-program = with_subcommand (record {
+program = with_subcommand (with_subcommand (record {
   top = record (new_shape (codes "tspc")) { subcommand_required = true; disable_help_subcommand = true };
   subs = [];
-}) solve_shape
+}) solve_shape) verify_shape
 
 -- the words are of a command's form: the parser finds no fault with them, of which a call for help is one
 abbrev pub IsTaken : List Text → Type 0
 IsTaken words = fault_of program words ≡ []
+
+-- the command that the words name
+abbrev pub command_word : List Text → Text
+command_word words = option_map_or (λ p. p.0) (subcommand_of program words) []
+
+-- the words are a call of this command
+pub record IsCallOf (command : Text) (words : List Text) : Type 0 where
+  pub taken : IsTaken words
+  pub named : command_word words ≡ command
+
+abbrev pub IsSolveCall : List Text → Type 0
+IsSolveCall words = IsCallOf (codes "solve") words
+
+abbrev pub IsVerifyCall : List Text → Type 0
+IsVerifyCall words = IsCallOf (codes "verify") words
 
 -- what the words say of the arguments of the command that they name
 abbrev pub rows_of_words : List Text → List Row
@@ -66,3 +88,20 @@ number_of word = digits_value 10 (without_leading_plus word)
 
 abbrev pub budget_of : List Text → ℕ
 budget_of words = number_of (word_for (codes "budget") words)
+
+-- ---- the verifier, a program of its own
+
+-- `tspverify INSTANCE PROOF`
+abbrev pub verifier : App
+verifier = record {
+  top = record (new_shape (codes "tspverify")) { rules = path_rule (codes "instance") ∷ path_rule (codes "proof") ∷ [] };
+  subs = [];
+}
+
+-- the words are of the verifier's form
+abbrev pub IsVerifierCall : List Text → Type 0
+IsVerifierCall words = fault_of verifier words ≡ []
+
+-- the word that is given for an argument of the verifier
+abbrev pub verifier_word : Text → List Text → Text
+verifier_word id words = word_in id (matches_of verifier words)

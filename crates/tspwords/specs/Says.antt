@@ -1,19 +1,33 @@
--- Which command the words say.
-use Rattle.std.specs.Prelude.{◌≡◌, ◌≤◌, List, string_bytes}
+-- Which command the words say. The verifier's words say paths alone.
+use Rattle.std.specs.Prelude.{◌≡◌, ◌≤◌, List, codes, string_bytes}
 use Rattle.clap.specs.Walk.{Text}
 use Rattle.tspwords.specs.declared.words.Solve.{Solve}
+use Rattle.tspwords.specs.declared.words.VerifyWords.{VerifyWords}
 use Rattle.tspwords.specs.declared.words.Command.{Command}
 use Rattle.tspwords.specs.declared.words.Command.TheVariants as command
-use Rattle.tspwords.specs.Program.{most_budget, instance_word, proof_word, restart_word, budget_of}
+use Rattle.tspwords.specs.Program.{most_budget, command_word, instance_word, proof_word, restart_word, budget_of, verifier_word}
 
 -- the words say this call of `solve`
 pub record SaysSolve (words : List Text) (s : Solve) : Type 0 where
+  pub named : command_word words ≡ codes "solve"
   pub instance : string_bytes s.instance ≡ instance_word words
   pub proof : string_bytes s.proof ≡ proof_word words
   pub restart : string_bytes s.restart ≡ restart_word words
   pub budget : s.budget ≡ budget_of words
   pub few : s.budget ≤ most_budget
 
+-- the words say this call of `verify`
+pub record SaysVerify (words : List Text) (v : VerifyWords) : Type 0 where
+  pub named : command_word words ≡ codes "verify"
+  pub instance : string_bytes v.instance ≡ instance_word words
+  pub proof : string_bytes v.proof ≡ proof_word words
+
+-- the words of the verifier say these paths
+pub record SaysPaths (words : List Text) (v : VerifyWords) : Type 0 where
+  pub instance : string_bytes v.instance ≡ verifier_word (codes "instance") words
+  pub proof : string_bytes v.proof ≡ verifier_word (codes "proof") words
+
 -- the words say this command
 abbrev pub Says : List Text → Command → Type 0
 Says words (command.Solve s) = SaysSolve words s
+Says words (command.Verify v) = SaysVerify words v

@@ -1,9 +1,10 @@
 //! The words of a command line, read as commands.
 //!
 //! - [`read_command`] reads the words of the solver as a [`Command`].
+//! - [`read_verify_words`] reads the words of the verifier, a program of its own, as [`VerifyWords`].
 //! - [`plain_words_are_taken`], [`taken_words_are_given`]: laws of what words say.
 //!
-//! `specs/Program.antt` has the command line as the parser of command lines is given it, and what is read from it.
+//! `specs/Program.antt` has the command lines as the parser of command lines is given them, and what is read from them.
 #![tactic(auto)]
 
 mod laws;
@@ -12,8 +13,8 @@ mod reading;
 mod words;
 
 pub use laws::{plain_words_are_taken, taken_words_are_given};
-pub use reading::read_command;
-pub use words::{Command, Solve, WordsError};
+pub use reading::{read_command, read_verify_words};
+pub use words::{Command, Solve, VerifyWords, WordsError};
 
 #[cfg(test)]
 mod tests;

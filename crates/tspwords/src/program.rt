@@ -1,10 +1,10 @@
-//! The command line, as the parser of command lines is given it. At most two arguments are added a function, which keeps
+//! The command lines, as the parser of command lines is given them. At most two arguments are added a function, which keeps
 //! the proofs short.
 ghost use Rattle.std.specs.Prelude.{◌≡◌, codes, false, [], IfOk};
 ghost use Rattle.clap.specs.Walk.{rule_of};
 ghost use Rattle.clap.specs.Simple.{app_of, new_app, with_rule, on_top};
 ghost use Rattle.clap.specs.declared.builder.command.Command.TheViews.{out-Command};
-ghost use Rattle.tspwords.specs.Program.{path_rule, budget_rule, solve_shape, program};
+ghost use Rattle.tspwords.specs.Program.{path_rule, budget_rule, solve_shape, verify_shape, program, verifier};
 
 use clap::builder::ValueParser;
 use clap::{Arg, Command};
@@ -49,6 +49,16 @@ fn solve<'a>(alloc: Global) -> Result<Command<'a>, AllocError>
         .arg(budget(alloc))
 }
 
+// `verify INSTANCE PROOF`
+fn verify<'a>(alloc: Global) -> Result<Command<'a>, AllocError>
+    ensures app { IfOk result (λ c. app_of c ≡ record { top = verify_shape; subs = [] }) }
+    ensures local { IfOk result (λ c. (out-Command c).has_globals ≡ false) }
+{
+    Command::new(alloc, "verify")
+        .arg(path(alloc, "instance"))?
+        .arg(path(alloc, "proof"))
+}
+
 /// The program and its commands.
 pub(crate) fn program<'a>(alloc: Global) -> Result<Command<'a>, AllocError>
     ensures app { IfOk result (λ c. app_of c ≡ program) }
@@ -57,5 +67,15 @@ pub(crate) fn program<'a>(alloc: Global) -> Result<Command<'a>, AllocError>
     let top = Command::new(alloc, "tspc")
         .subcommand_required(true)
         .disable_help_subcommand(true);
-    top.subcommand(solve(alloc)?)
+    top.subcommand(solve(alloc)?)?.subcommand(verify(alloc)?)
+}
+
+/// The verifier.
+pub(crate) fn verifier<'a>(alloc: Global) -> Result<Command<'a>, AllocError>
+    ensures app { IfOk result (λ c. app_of c ≡ verifier) }
+    ensures local { IfOk result (λ c. (out-Command c).has_globals ≡ false) }
+{
+    Command::new(alloc, "tspverify")
+        .arg(path(alloc, "instance"))?
+        .arg(path(alloc, "proof"))
 }

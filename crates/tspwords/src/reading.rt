@@ -1,14 +1,16 @@
 //! Reading the words of a command line.
-ghost use Rattle.std.specs.Prelude.{◌≡◌, ◌≤◌, ℕ, map, codes, string_bytes, true, IfOk, IsErrOf};
+ghost use Rattle.std.specs.Prelude.{◌≡◌, ◌≤◌, ℕ, map, codes, string_bytes, true, false, [], IfOk, IsErrOf};
 ghost use Rattle.clap.specs.Matches.{found_of, has_subcommand};
 ghost use Rattle.clap.specs.Walk.{rows_of};
-ghost use Rattle.clap.specs.Simple.{subcommand_of, subcommand_rows_of};
-ghost use Rattle.tspwords.specs.Program.{program, IsTaken, word_in};
-ghost use Rattle.tspwords.specs.Found.{IsSolveOf, budget_in};
-ghost use Rattle.tspwords.specs.Says.{Says};
+ghost use Rattle.clap.specs.Simple.{app_of, matches_of, subcommand_of, subcommand_rows_of};
+ghost use Rattle.clap.specs.Faults.{fault_of, is_simple_and_free};
+ghost use Rattle.clap.specs.declared.builder.command.Command.TheViews.{out-Command};
+ghost use Rattle.tspwords.specs.Program.{program, verifier, IsTaken, IsVerifierCall, word_in};
+ghost use Rattle.tspwords.specs.Found.{IsSolveOf, IsVerifyOf, budget_in};
+ghost use Rattle.tspwords.specs.Says.{Says, SaysPaths};
 
-use crate::program::program;
-use crate::words::{Command, Solve, WordsError};
+use crate::program::{program, verifier};
+use crate::words::{Command, Solve, VerifyWords, WordsError};
 use clap::ArgMatches;
 use clap::error::ErrorKind;
 use std::alloc::{AllocError, Global};
@@ -26,19 +28,53 @@ pub fn read_command(alloc: Global, words: &[String]) -> Result<Command, WordsErr
 {
     let matches = matches(alloc, words)?;
     match matches.subcommand() {
-        Some((_, found)) => Ok(Command::Solve(solve(alloc, found)?)),
+        Some(("solve", found)) => Ok(Command::Solve(solve(alloc, found)?)),
+        Some((_, found)) => Ok(Command::Verify(verify(alloc, found)?)),
         None => Err(WordsError::Usage),
     }
 }
 
-// What the parser of command lines finds in the words.
+/// Reads the words of the verifier's command line, of which the first is the program's name.
+///
+/// `Usage` comes exactly where the words are not of its form; `NoMemory` may come for any words.
+pub fn read_verify_words(alloc: Global, words: &[String]) -> Result<VerifyWords, WordsError>
+    ensures taken { IfOk result (λ v. IsVerifierCall (map string_bytes words.now)) }
+    ensures says { IfOk result (SaysPaths (map string_bytes words.now)) }
+    ensures usage { IsErrOf result WordsError.Usage → IsVerifierCall (map string_bytes words.now) → ⊥ }
+{
+    let found = verifier_matches(alloc, words)?;
+    Ok(verify(alloc, &found)?)
+}
+
+// What the parser of command lines finds in the solver's words.
 fn matches<'a>(alloc: Global, words: &'a [String]) -> Result<ArgMatches<'a>, WordsError>
     ensures taken { IfOk result (λ m. IsTaken (map string_bytes words.now)) }
     ensures rows { IfOk result (λ m. subcommand_rows_of m ≡ subcommand_of program (map string_bytes words.now)) }
     ensures named { IfOk result (λ m. has_subcommand m ≡ true) }
     ensures usage { IsErrOf result WordsError.Usage → IsTaken (map string_bytes words.now) → ⊥ }
 {
-    match program(alloc)?.try_get_matches_from(words) {
+    parsed(program(alloc)?, words)
+}
+
+// What it finds in the verifier's words.
+fn verifier_matches<'a>(alloc: Global, words: &'a [String]) -> Result<ArgMatches<'a>, WordsError>
+    ensures taken { IfOk result (λ m. IsVerifierCall (map string_bytes words.now)) }
+    ensures rows { IfOk result (λ m. rows_of (found_of m) ≡ matches_of verifier (map string_bytes words.now)) }
+    ensures usage { IsErrOf result WordsError.Usage → IsVerifierCall (map string_bytes words.now) → ⊥ }
+{
+    parsed(verifier(alloc)?, words)
+}
+
+// What the parser finds in words for a command.
+fn parsed<'a>(command: clap::Command<'a>, words: &'a [String]) -> Result<ArgMatches<'a>, WordsError>
+    requires simple { is_simple_and_free (app_of command) ≡ true }
+    requires local { (out-Command command).has_globals ≡ false }
+    ensures faults { IfOk result (λ m. fault_of (app_of command.entry) (map string_bytes words.now) ≡ []) }
+    ensures rows { IfOk result (λ m. rows_of (found_of m) ≡ matches_of (app_of command.entry) (map string_bytes words.now)) }
+    ensures inner { IfOk result (λ m. subcommand_rows_of m ≡ subcommand_of (app_of command.entry) (map string_bytes words.now)) }
+    ensures usage { IsErrOf result WordsError.Usage → fault_of (app_of command.entry) (map string_bytes words.now) ≡ [] → ⊥ }
+{
+    match command.try_get_matches_from(words) {
         Ok(matches) => Ok(matches),
         Err(error) if error.kind() == ErrorKind::OutOfMemory => Err(WordsError::NoMemory),
         Err(_) => Err(WordsError::Usage),
@@ -54,6 +90,16 @@ fn solve(alloc: Global, found: &ArgMatches) -> Result<Solve, AllocError>
         proof: path(alloc, found, "proof")?,
         restart: path(alloc, found, "restart")?,
         budget: budget_in(word(found, "budget")),
+    })
+}
+
+// The paths that were found.
+fn verify(alloc: Global, found: &ArgMatches) -> Result<VerifyWords, AllocError>
+    ensures { IfOk result (IsVerifyOf (rows_of (found_of found.now))) }
+{
+    Ok(VerifyWords {
+        instance: path(alloc, found, "instance")?,
+        proof: path(alloc, found, "proof")?,
     })
 }
 

@@ -29,11 +29,66 @@ fn words_that_are_taken(rt: HostRuntime) -> Result<(), Fail> {
         ("tspc solve -- a -b c", "-b", 65536),
         ("tspc solve a solve c", "solve", 65536),
     ] {
-        let Command::Solve(solve) = read(rt.alloc(), line)?;
-        assert_eq!(rt; solve.instance.as_str(), "a", "{line}");
-        assert_eq!(rt; solve.proof.as_str(), proof, "{line}");
-        assert_eq!(rt; solve.restart.as_str(), "c", "{line}");
-        assert_eq!(rt; solve.budget, budget, "{line}");
+        match read(rt.alloc(), line)? {
+            Command::Solve(solve) => {
+                assert_eq!(rt; solve.instance.as_str(), "a", "{line}");
+                assert_eq!(rt; solve.proof.as_str(), proof, "{line}");
+                assert_eq!(rt; solve.restart.as_str(), "c", "{line}");
+                assert_eq!(rt; solve.budget, budget, "{line}");
+            }
+            Command::Verify(_) => panic!(rt; "{line}"),
+        }
+    }
+    Ok(())
+}
+
+// Words that `verify` takes, with and without the name of the command.
+#[test]
+fn words_of_verify_that_are_taken(rt: HostRuntime) -> Result<(), Fail> {
+    for (line, own, instance, proof) in [
+        ("tspc verify a b", "tspverify a b", "a", "b"),
+        (
+            "tspc verify verify solve",
+            "tspverify verify solve",
+            "verify",
+            "solve",
+        ),
+        ("tspc verify -- -a b", "tspverify -- -a b", "-a", "b"),
+        ("tspc verify a -", "tspverify a -", "a", "-"),
+    ] {
+        match read(rt.alloc(), line)? {
+            Command::Verify(verify) => {
+                assert_eq!(rt; verify.instance.as_str(), instance, "{line}");
+                assert_eq!(rt; verify.proof.as_str(), proof, "{line}");
+            }
+            Command::Solve(_) => panic!(rt; "{line}"),
+        }
+        let words = words_of(rt.alloc(), own)?;
+        let verify = read_verify_words(rt.alloc(), &words)?;
+        assert_eq!(rt; verify.instance.as_str(), instance, "{own}");
+        assert_eq!(rt; verify.proof.as_str(), proof, "{own}");
+    }
+    Ok(())
+}
+
+#[test]
+fn words_of_the_verifier_that_are_not_taken(rt: HostRuntime) -> Result<(), Fail> {
+    for line in [
+        "tspverify",
+        "tspverify a",
+        "tspverify a b c",
+        "tspverify a b --budget 1",
+        "tspverify -a b",
+        "tspverify --help",
+        "tspverify a b -h",
+        "tspverify --version",
+    ] {
+        let words = words_of(rt.alloc(), line)?;
+        assert_eq!(rt;
+            read_verify_words(rt.alloc(), &words).err(),
+            Some(WordsError::Usage),
+            "{line}"
+        );
     }
     Ok(())
 }
@@ -57,6 +112,12 @@ fn words_that_are_not_taken(rt: HostRuntime) -> Result<(), Fail> {
         "tspc help",
         "tspc solve --help",
         "tspc solve a b c -h",
+        "tspc verify",
+        "tspc verify a",
+        "tspc verify a b c",
+        "tspc verify a b --budget 1",
+        "tspc verify --help",
+        "tspc verif a b",
     ] {
         assert_eq!(rt;
             read(rt.alloc(), line).err(),

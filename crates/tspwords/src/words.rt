@@ -15,11 +15,20 @@ pub struct Solve {
     pub budget: u32,
 }
 
+/// A call of `verify`, or of the verifier: the paths of the instance and of the proof.
+#[derive(Debug, Drop)]
+pub struct VerifyWords {
+    pub instance: String,
+    pub proof: String,
+}
+
 /// A command of the solver.
 #[derive(Debug, Drop)]
 pub enum Command {
     /// `solve INSTANCE PROOF RESTART [--budget N]`
     Solve(Solve),
+    /// `verify INSTANCE PROOF`
+    Verify(VerifyWords),
 }
 
 /// Why words were not read.

@@ -1,4 +1,4 @@
-use Rattle.std.proofs.Common.{◌≡◌, ℕ, ◌+◌, ◌≤◌, subst, ap, ◌∙◌, arith}
+use Rattle.std.proofs.Common.{ℕ, ◌+◌, ◌≤◌, subst, ap, ◌∙◌, arith}
 use Rattle.tspdef.specs.Trees.{open_leaves, settled}
 use Rattle.treebook.specs.Tables.{IsTable, tree_of}
 use Rattle.tspengine.specs.Texts.{stopped_text}

@@ -1,8 +1,8 @@
-use Rattle.std.proofs.Common.{◌≡◌, ◌∙◌, sym, [], List, ℕ, subst, inr}
+use Rattle.std.proofs.Common.{◌∙◌, sym, [], List, ℕ, subst, inr}
 use Rattle.tspengine.specs.Names.{names_in}
 use Rattle.tspengine.specs.Outcomes.{IsOutcome, IsStopped}
 use Rattle.tspengine.specs.Transfers.{PublishesFronts}
-use Rattle.tspengine.proofs.Tells.{both_to, on_err, on_ok}
+use Rattle.verification.proofs.Tells.{both_to, on_err, on_ok}
 use Rattle.tspengine.proofs.Fronts.{text_alone_torn}
 use Rattle.tspengine.proofs.Finishing.{unsaved_path, saved_path}
 use Rattle.tspengine.proofs.running.finish.Goals as goal

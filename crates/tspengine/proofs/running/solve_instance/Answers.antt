@@ -1,10 +1,11 @@
-use Rattle.std.proofs.Common.{◌≡◌, List, ℕ, subst, refl, inl, inr}
+use Rattle.std.proofs.Common.{List, ℕ, subst, refl, inl, inr}
 use Rattle.ports.specs.Outside.{BothTell}
-use Rattle.tspengine.specs.declared.publishing.Reading.{Reading}
+use Rattle.verification.specs.declared.reading.Reading.{Reading}
 use Rattle.tspengine.specs.declared.statuses.Status.TheVariants as status
 use Rattle.tspengine.specs.Names.{names_in}
-use Rattle.tspengine.specs.Transfers.{ReadsInstance, RefusesInstance, either}
-use Rattle.tspengine.specs.Readings.{IsReadingOf}
+use Rattle.verification.specs.Transfers.{ReadsInstance, RefusesInstance}
+use Rattle.tspengine.specs.Transfers.{either}
+use Rattle.verification.specs.Readings.{IsReadingOf}
 use Rattle.tspengine.proofs.Ends.{read_silent, refused_ends, finish_ends}
 use Rattle.tspengine.proofs.running.solve_instance.Goals as goal
 

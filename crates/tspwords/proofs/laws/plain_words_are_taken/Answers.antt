@@ -1,4 +1,4 @@
-use Rattle.tspwords.proofs.PlainWords.{paths_taken, budgets_taken}
+use Rattle.tspwords.proofs.PlainWords.{paths_taken, budgets_taken, verify_taken, verifier_words_taken}
 use Rattle.tspwords.proofs.laws.plain_words_are_taken.Goals as goal
 
 pub returns-clause-paths : goal.returns-clause-paths
@@ -6,3 +6,9 @@ returns-clause-paths c = paths_taken
 
 pub returns-clause-budgets : goal.returns-clause-budgets
 returns-clause-budgets c = budgets_taken
+
+pub returns-clause-verify : goal.returns-clause-verify
+returns-clause-verify c = verify_taken
+
+pub returns-clause-verifier : goal.returns-clause-verifier
+returns-clause-verifier c = verifier_words_taken

@@ -1,7 +1,7 @@
 use Rattle.std.proofs.Common.{◌≡◌, sym, subst, Option, Some, None, Result, Ok, Err, true, false}
 use Rattle.std.specs.Prelude.{OnOk, OnErr}
 use Rattle.std.specs.Result.{is_err}
-use Rattle.ports.specs.Outside.{BothTell, WhereTold}
+use Rattle.ports.specs.Outside.{BothTell}
 
 -- what two objects tell is related by what follows from how they are related
 pub both_to : {T : Type 0} (P Q : T → T → Type 0) → ((t u : T) → P t u → Q t u) → (a b : Option T) → BothTell P a b → BothTell Q a b

@@ -1,0 +1,219 @@
+use Rattle.std.proofs.Common.{subst, map, string_bytes, inl, inr, refl}
+use Rattle.ports.specs.Outside.{BothTell}
+use Rattle.tspwords.specs.Program.{IsVerifyCall}
+use Rattle.tspwords.specs.Says.{Says}
+use Rattle.tspwords.specs.declared.words.Command.{Command}
+use Rattle.verification.specs.Runs as checks
+use Rattle.verification.specs.Runs.{Paths, paths_in}
+use Rattle.verification.specs.declared.statuses.VerifyStatus.TheVariants as checked
+use Rattle.verification.proofs.Outcomes.{at_status, verified_run, refused_run, torn_run, keeps_run, run_judges, run_accepts}
+use Rattle.tspengine.specs.Names.{names_of, paths_of}
+use Rattle.tspengine.proofs.Verifying.{from_verified, from_used, from_bad, from_refused, from_unwritten, never_optimal, never_stopped, never_solves, judged_status, verified_status, reads_cause, writes_cause, store_cause, one_call, same_paths, bad_run, silent_run, slots_run}
+use Rattle.tspengine.proofs.running.run.Goals as goal
+
+pub returns-in-Ok-Verify-clause-optimal : goal.returns-in-Ok-Verify-clause-optimal
+returns-in-Ok-Verify-clause-optimal g c =
+    let words = map string_bytes c.args.words.now in
+    let s = c.status_of.result in
+    let v = c.verify.result in
+    let is = c.status_of.ensures in
+    λ e. absurd (never_optimal s v is e)
+
+pub returns-in-Ok-Verify-clause-stopped : goal.returns-in-Ok-Verify-clause-stopped
+returns-in-Ok-Verify-clause-stopped g c =
+    let words = map string_bytes c.args.words.now in
+    let s = c.status_of.result in
+    let v = c.verify.result in
+    let is = c.status_of.ensures in
+    λ e. absurd (never_stopped s v is e)
+
+pub returns-in-Ok-Verify-clause-verified : goal.returns-in-Ok-Verify-clause-verified
+returns-in-Ok-Verify-clause-verified g c =
+    let words = map string_bytes c.args.words.now in
+    let s = c.status_of.result in
+    let v = c.verify.result in
+    let is = c.status_of.ensures in
+    let says = subst (λ (x : Command). Says words x) c.in-Ok-Verify.field-0-is c.in-Ok-Verify.ensures.says in
+    let paths = paths_of words in
+    let a = g.D.Desk.told c.args.desk.now in
+    let b = g.D.Desk.told c.verify.new.desk in
+    let ends = subst (λ (p : Paths). BothTell (checks.EndsDesk p v) a b) (same_paths words c.in-Ok-Verify.words says) c.verify.ensures.desk in
+    λ e. verified_run paths a b (at_status paths v checked.Verified a b (from_verified s v is e) ends)
+
+pub returns-in-Ok-Verify-clause-refused : goal.returns-in-Ok-Verify-clause-refused
+returns-in-Ok-Verify-clause-refused g c =
+    let words = map string_bytes c.args.words.now in
+    let s = c.status_of.result in
+    let v = c.verify.result in
+    let is = c.status_of.ensures in
+    let says = subst (λ (x : Command). Says words x) c.in-Ok-Verify.field-0-is c.in-Ok-Verify.ensures.says in
+    let paths = paths_of words in
+    let a = g.D.Desk.told c.args.desk.now in
+    let b = g.D.Desk.told c.verify.new.desk in
+    let ends = subst (λ (p : Paths). BothTell (checks.EndsDesk p v) a b) (same_paths words c.in-Ok-Verify.words says) c.verify.ensures.desk in
+    λ e. refused_run paths a b (at_status paths v checked.Refused a b (from_refused s v is e) ends)
+
+pub returns-in-Ok-Verify-clause-bad_instance : goal.returns-in-Ok-Verify-clause-bad_instance
+returns-in-Ok-Verify-clause-bad_instance g c =
+    let words = map string_bytes c.args.words.now in
+    let s = c.status_of.result in
+    let v = c.verify.result in
+    let is = c.status_of.ensures in
+    let says = subst (λ (x : Command). Says words x) c.in-Ok-Verify.field-0-is c.in-Ok-Verify.ensures.says in
+    let paths = paths_of words in
+    let a = g.D.Desk.told c.args.desk.now in
+    let b = g.D.Desk.told c.verify.new.desk in
+    let ends = subst (λ (p : Paths). BothTell (checks.EndsDesk p v) a b) (same_paths words c.in-Ok-Verify.words says) c.verify.ensures.desk in
+    λ e. bad_run words a b (at_status paths v checked.BadInstance a b (from_bad s v is e) ends)
+
+pub returns-in-Ok-Verify-clause-usage : goal.returns-in-Ok-Verify-clause-usage
+returns-in-Ok-Verify-clause-usage g c =
+    let words = map string_bytes c.args.words.now in
+    let s = c.status_of.result in
+    let v = c.verify.result in
+    let is = c.status_of.ensures in
+    λ e. absurd (c.verify.ensures.status (from_used s v is e))
+
+pub returns-in-Ok-Verify-clause-solves : goal.returns-in-Ok-Verify-clause-solves
+returns-in-Ok-Verify-clause-solves g c =
+    let words = map string_bytes c.args.words.now in
+    let s = c.status_of.result in
+    let v = c.verify.result in
+    let is = c.status_of.ensures in
+    λ e. absurd (never_solves s v is e)
+
+pub returns-in-Ok-Verify-clause-verifies : goal.returns-in-Ok-Verify-clause-verifies
+returns-in-Ok-Verify-clause-verifies g c =
+    let words = map string_bytes c.args.words.now in
+    let s = c.status_of.result in
+    let v = c.verify.result in
+    let is = c.status_of.ensures in
+    let says = subst (λ (x : Command). Says words x) c.in-Ok-Verify.field-0-is c.in-Ok-Verify.ensures.says in
+    let call : IsVerifyCall words = record { taken = c.in-Ok-Verify.ensures.taken; named = says.named } in
+    λ e. call
+
+pub returns-in-Ok-Verify-clause-reads : goal.returns-in-Ok-Verify-clause-reads
+returns-in-Ok-Verify-clause-reads g c =
+    let words = map string_bytes c.args.words.now in
+    let s = c.status_of.result in
+    let v = c.verify.result in
+    let is = c.status_of.ensures in
+    reads_cause s v _ _ is c.verify.ensures.reads
+
+pub returns-in-Ok-Verify-clause-writes : goal.returns-in-Ok-Verify-clause-writes
+returns-in-Ok-Verify-clause-writes g c =
+    let words = map string_bytes c.args.words.now in
+    let s = c.status_of.result in
+    let v = c.verify.result in
+    let is = c.status_of.ensures in
+    writes_cause s v _ _ is c.verify.ensures.writes
+
+pub returns-in-Ok-Verify-clause-store : goal.returns-in-Ok-Verify-clause-store
+returns-in-Ok-Verify-clause-store g c =
+    let words = map string_bytes c.args.words.now in
+    let s = c.status_of.result in
+    let v = c.verify.result in
+    let is = c.status_of.ensures in
+    store_cause s v _ is
+
+pub returns-in-Ok-Verify-clause-silent : goal.returns-in-Ok-Verify-clause-silent
+returns-in-Ok-Verify-clause-silent g c =
+    let words = map string_bytes c.args.words.now in
+    let s = c.status_of.result in
+    let v = c.verify.result in
+    let is = c.status_of.ensures in
+    let says = subst (λ (x : Command). Says words x) c.in-Ok-Verify.field-0-is c.in-Ok-Verify.ensures.says in
+    let paths = paths_of words in
+    let a = g.D.Desk.told c.args.desk.now in
+    let b = g.D.Desk.told c.verify.new.desk in
+    let ends = subst (λ (p : Paths). BothTell (checks.EndsDesk p v) a b) (same_paths words c.in-Ok-Verify.words says) c.verify.ensures.desk in
+    λ e. silent_run paths s v a b is e ends
+
+pub returns-in-Ok-Verify-clause-torn : goal.returns-in-Ok-Verify-clause-torn
+returns-in-Ok-Verify-clause-torn g c =
+    let words = map string_bytes c.args.words.now in
+    let s = c.status_of.result in
+    let v = c.verify.result in
+    let is = c.status_of.ensures in
+    let says = subst (λ (x : Command). Says words x) c.in-Ok-Verify.field-0-is c.in-Ok-Verify.ensures.says in
+    let call : IsVerifyCall words = record { taken = c.in-Ok-Verify.ensures.taken; named = says.named } in
+    let paths = paths_of words in
+    let a = g.D.Desk.told c.args.desk.now in
+    let b = g.D.Desk.told c.verify.new.desk in
+    let ends = subst (λ (p : Paths). BothTell (checks.EndsDesk p v) a b) (same_paths words c.in-Ok-Verify.words says) c.verify.ensures.desk in
+    λ e. inr (inl (call, torn_run paths a b (at_status paths v checked.WriteFault a b (from_unwritten s v is e) ends)))
+
+pub returns-in-Ok-Verify-clause-desk : goal.returns-in-Ok-Verify-clause-desk
+returns-in-Ok-Verify-clause-desk g c =
+    let words = map string_bytes c.args.words.now in
+    let s = c.status_of.result in
+    let v = c.verify.result in
+    let is = c.status_of.ensures in
+    let says = subst (λ (x : Command). Says words x) c.in-Ok-Verify.field-0-is c.in-Ok-Verify.ensures.says in
+    let call : IsVerifyCall words = record { taken = c.in-Ok-Verify.ensures.taken; named = says.named } in
+    λ no. absurd (no call)
+
+pub returns-in-Ok-Verify-clause-verify_desk : goal.returns-in-Ok-Verify-clause-verify_desk
+returns-in-Ok-Verify-clause-verify_desk g c =
+    let words = map string_bytes c.args.words.now in
+    let s = c.status_of.result in
+    let v = c.verify.result in
+    let is = c.status_of.ensures in
+    let says = subst (λ (x : Command). Says words x) c.in-Ok-Verify.field-0-is c.in-Ok-Verify.ensures.says in
+    let paths = paths_of words in
+    let a = g.D.Desk.told c.args.desk.now in
+    let b = g.D.Desk.told c.verify.new.desk in
+    let ends = subst (λ (p : Paths). BothTell (checks.EndsDesk p v) a b) (same_paths words c.in-Ok-Verify.words says) c.verify.ensures.desk in
+    λ _. keeps_run paths v a b ends
+
+pub returns-in-Ok-Verify-clause-verify_slots : goal.returns-in-Ok-Verify-clause-verify_slots
+returns-in-Ok-Verify-clause-verify_slots g c =
+    let words = map string_bytes c.args.words.now in
+    let s = c.status_of.result in
+    let v = c.verify.result in
+    let is = c.status_of.ensures in
+    λ _. (refl, refl)
+
+pub returns-in-Ok-Verify-clause-slots : goal.returns-in-Ok-Verify-clause-slots
+returns-in-Ok-Verify-clause-slots g c =
+    let words = map string_bytes c.args.words.now in
+    let s = c.status_of.result in
+    let v = c.verify.result in
+    let is = c.status_of.ensures in
+    slots_run (names_of words) s v (g.L.Slots.told c.args.slots.now) is
+
+pub returns-in-Ok-Verify-clause-complete : goal.returns-in-Ok-Verify-clause-complete
+returns-in-Ok-Verify-clause-complete g c =
+    let words = map string_bytes c.args.words.now in
+    let s = c.status_of.result in
+    let v = c.verify.result in
+    let is = c.status_of.ensures in
+    let says = subst (λ (x : Command). Says words x) c.in-Ok-Verify.field-0-is c.in-Ok-Verify.ensures.says in
+    let call : IsVerifyCall words = record { taken = c.in-Ok-Verify.ensures.taken; named = says.named } in
+    λ i solve. absurd (one_call words solve call)
+
+pub returns-in-Ok-Verify-clause-judges : goal.returns-in-Ok-Verify-clause-judges
+returns-in-Ok-Verify-clause-judges g c =
+    let words = map string_bytes c.args.words.now in
+    let s = c.status_of.result in
+    let v = c.verify.result in
+    let is = c.status_of.ensures in
+    let says = subst (λ (x : Command). Says words x) c.in-Ok-Verify.field-0-is c.in-Ok-Verify.ensures.says in
+    let paths = paths_of words in
+    let a = g.D.Desk.told c.args.desk.now in
+    let b = g.D.Desk.told c.verify.new.desk in
+    let ends = subst (λ (p : Paths). BothTell (checks.EndsDesk p v) a b) (same_paths words c.in-Ok-Verify.words says) c.verify.ensures.desk in
+    λ i _ told calm still. judged_status s v is (run_judges paths v i a b _ _ _ _ ends c.verify.ensures.status told c.verify.ensures.reads c.verify.ensures.writes calm still)
+
+pub returns-in-Ok-Verify-clause-accepted : goal.returns-in-Ok-Verify-clause-accepted
+returns-in-Ok-Verify-clause-accepted g c =
+    let words = map string_bytes c.args.words.now in
+    let s = c.status_of.result in
+    let v = c.verify.result in
+    let is = c.status_of.ensures in
+    let says = subst (λ (x : Command). Says words x) c.in-Ok-Verify.field-0-is c.in-Ok-Verify.ensures.says in
+    let paths = paths_of words in
+    let a = g.D.Desk.told c.args.desk.now in
+    let b = g.D.Desk.told c.verify.new.desk in
+    let ends = subst (λ (p : Paths). BothTell (checks.EndsDesk p v) a b) (same_paths words c.in-Ok-Verify.words says) c.verify.ensures.desk in
+    λ i l _ told calm still. verified_status s v is (run_accepts paths v i l a b _ _ _ _ ends c.verify.ensures.status told c.verify.ensures.reads c.verify.ensures.writes calm still)

@@ -1,0 +1,4 @@
+pub mod Tells
+mod Judged
+mod Ends
+pub mod Outcomes
