@@ -440,7 +440,7 @@ fn random_matrix(alloc: Global, state: &mut u64) -> Result<(String, Instance), A
 fn random_instances_have_the_length_of_the_least_tour(rt: HostRuntime) -> Result<(), Fail> {
     let alloc = rt.alloc();
     let mut state = 2026;
-    for _ in 0..5 {
+    for _ in 0..40 {
         let (text, plain) = random_matrix(alloc, &mut state)?;
         let best = least_tour(alloc, &plain)?.ok_or("no tour")?;
         let length = tour_length(&plain, &best);
