@@ -1,20 +1,13 @@
 #!/usr/bin/env bash
-# Times the simplex on the root programs of drawn points: degree rows over ten near pairs a city, then the subtour rows
-# that the parts of the values ask for, and all pairs of negative reduced cost. Outside the gate. Prints a table; figures go
-# into docs/.
+# Times the simplex on root programs, of drawn points and of instances: degree rows over ten near pairs a city, then the
+# subtour rows that the parts of the values ask for, and all pairs of negative reduced cost. Outside the gate. Prints a table;
+# figures go into docs/SIMPLEX-FIGURES.md.
 #
-#   bench/simplex.sh [N ..]
+#   bench/simplex.sh [N | INSTANCE.tsp ..]     by default drawn points, and each instance of ../shared/instances
 set -eu
 top=$(cd "$(dirname "$0")/.." && pwd)
-work=$(mktemp -d)
-trap 'rm -rf "$work"' EXIT
-
-cp "$top/HANDLES" "$work/"
-mkdir -p "$work/crates"
-for crate in tspdef cyc lpcheck simplex; do cp -r "$top/crates/$crate" "$work/crates/$crate"; done
-{ grep -E '^(tspdef|cyc|lpcheck|simplex):' "$top/crates.txt"; echo "lpbench: cyc lpcheck simplex anyhow"; } >"$work/crates.txt"
-mkdir -p "$work/crates/lpbench/src" "$work/crates/lpbench/specs" "$work/crates/lpbench/proofs"
-touch "$work/crates/lpbench/specs/Lib.antt" "$work/crates/lpbench/proofs/Lib.antt"
+. "$top/bench/workspace.sh"
+workspace lpbench 'cyc ports tspinst lpcheck simplex anyhow'
 cat >"$work/crates/lpbench/src/cuts.rt" <<'RT'
 //! Sets that are crossed less than twice: the parts of the pairs above several thresholds.
 use simplex::Column;
@@ -129,20 +122,12 @@ pub fn find(
     Ok(sets)
 }
 RT
-cat >"$work/crates/lpbench/src/main.rt" <<'RT'
-//! lpbench N: the degree program of N drawn points with ten near pairs a city, then its subtour rows. Prints the
-//! cities, rows and columns; in microseconds the first solve, all solves, the newest one that had something new, and one with
-//! nothing new; the rounds; and how many answers were rough.
-#![tactic(auto)]
-
-mod cuts;
-
+cat >"$work/crates/lpbench/src/points.rt" <<'RT'
+//! Distances of drawn points and of instances, by rows.
 use anyhow::{Result, bail};
-use cyc::CitySet;
-use simplex::{Lp, LpAnswer, Row, Sense};
+use ports::{Desk, FileDesk, Inlet};
 use std::alloc::Global;
-use std::env;
-use std::time::Instant;
+use tspinst::{Instance, read};
 
 fn next(state: u64) -> u64 {
     state
@@ -150,8 +135,7 @@ fn next(state: u64) -> u64 {
         .wrapping_add(1_442_695_040_888_963_407)
 }
 
-/// Distances of drawn points, by rows.
-fn table(alloc: Global, n: u32) -> Result<Vec<u32>> {
+pub fn drawn(alloc: Global, n: u32) -> Result<Vec<u32>> {
     let mut points: Vec<(u64, u64)> = Vec::new(alloc);
     let mut state: u64 = 3;
     for _ in 0..n {
@@ -171,6 +155,44 @@ fn table(alloc: Global, n: u32) -> Result<Vec<u32>> {
     }
     Ok(v)
 }
+
+fn of_instance(alloc: Global, instance: &Instance) -> Result<Vec<u32>> {
+    let mut v = Vec::new(alloc);
+    for a in 0..instance.n() {
+        for b in 0..instance.n() {
+            v.push(instance.d(a, b))?;
+        }
+    }
+    Ok(v)
+}
+
+pub fn of_file(rt: HostRuntime, path: &str) -> Result<(u32, Vec<u32>)> {
+    let alloc = rt.alloc();
+    let mut desk = FileDesk::new(rt);
+    if desk.bind_in(Inlet::Instance, path).is_err() {
+        bail!("not opened");
+    }
+    match read(alloc, &mut desk) {
+        Ok(instance) => Ok((instance.n(), of_instance(alloc, &instance)?)),
+        Err(_) => bail!("not read"),
+    }
+}
+RT
+cat >"$work/crates/lpbench/src/main.rt" <<'RT'
+//! lpbench N, lpbench INSTANCE: the degree program of N drawn points, or of an instance, with ten near pairs a city, then its
+//! subtour rows. Prints the cities, rows and columns; in microseconds the first solve, the second one with twenty subtour rows
+//! more, all solves, and one with nothing new; the rounds; how many answers were rough; and the value.
+#![tactic(auto)]
+
+mod cuts;
+mod points;
+
+use anyhow::{Result, bail};
+use cyc::CitySet;
+use simplex::{Lp, LpAnswer, Row, Sense};
+use std::alloc::Global;
+use std::env;
+use std::time::Instant;
 
 fn put_set(alloc: Global, lp: &mut Lp, sense: Sense, cities: Vec<u32>) -> Result<()> {
     let n = lp.n();
@@ -285,42 +307,42 @@ fn price(alloc: Global, lp: &mut Lp, d: &[u32]) -> Result<u32> {
     Ok(added)
 }
 
-fn main(rt: HostRuntime) -> Result<()> {
-    let mut args = env::args(&rt)?;
-    let _program = args.next();
-    let n = match args.next() {
-        Some(word) => word.parse::<u32>().unwrap_or(100),
-        None => 100,
-    };
+/// The cost of the newest values, rounded down.
+fn cost(lp: &Lp, xs: &[u64]) -> u128 {
+    let mut units: u128 = 0;
+    for (column, x) in lp.cols().iter().zip(xs) {
+        units = units.wrapping_add(u128::from(column.cost).wrapping_mul(u128::from(*x)));
+    }
+    units >> 20
+}
+
+fn run(rt: HostRuntime, n: u32, d: &[u32]) -> Result<()> {
     let alloc = rt.alloc();
-    let d = table(alloc, n)?;
-    let mut lp = start(alloc, n, &d)?;
+    let mut lp = start(alloc, n, d)?;
     let mut spent: u128 = 0;
-    let mut first: u128 = 0;
-    let mut last: u128 = 0;
+    let mut times: Vec<u128> = Vec::new(alloc);
     let mut rough = 0u32;
-    for round in 0..80u32 {
+    for round in 0..200u32 {
         let from = Instant::now(&rt)?;
         lp.solve(alloc, 100_000)?;
         let micros = from.elapsed(&rt)?.as_micros();
         spent = spent.wrapping_add(micros);
-        let solved = matches!(lp.last(), Some(LpAnswer::Solved { .. }));
+        times.push(micros)?;
+        if !matches!(lp.last(), Some(LpAnswer::Solved { .. })) {
+            rough = rough.wrapping_add(1);
+        }
         let xs = values(alloc, &lp)?;
-        let sets = cuts::find(alloc, n, lp.cols(), &xs)?;
+        let mut sets = cuts::find(alloc, n, lp.cols(), &xs)?;
         let found = sets.len();
         let mut priced = 0;
         if found == 0 {
-            priced = price(alloc, &mut lp, &d)?;
+            priced = price(alloc, &mut lp, d)?;
+        }
+        if round == 0 {
+            sets.truncate(20);
         }
         for cities in sets {
             put_set(alloc, &mut lp, Sense::AtLeast, cities)?;
-        }
-        if round == 0 {
-            first = micros;
-        }
-        last = micros;
-        if !solved {
-            rough = rough.wrapping_add(1);
         }
         if found == 0 && priced == 0 {
             break;
@@ -329,19 +351,36 @@ fn main(rt: HostRuntime) -> Result<()> {
     let from = Instant::now(&rt)?;
     lp.solve(alloc, 100_000)?;
     let idle = from.elapsed(&rt)?.as_micros();
+    let xs = values(alloc, &lp)?;
+    let value = cost(&lp, &xs);
     let rounds = lp.rounds();
     let (rows, cols) = (lp.rows().len(), lp.cols().len());
-    println!(rt; "{n} {rows} {cols} {first} {spent} {last} {idle} {rounds} {rough}")?;
+    let first = times.first().copied().unwrap_or(0);
+    let second = times.get(1).copied().unwrap_or(0);
+    println!(rt; "{n} {rows} {cols} {first} {second} {spent} {idle} {rounds} {rough} {value}")?;
     Ok(())
+}
+
+fn main(rt: HostRuntime) -> Result<()> {
+    let mut args = env::args(&rt)?;
+    let _program = args.next();
+    let Some(word) = args.next() else {
+        bail!("no number and no instance");
+    };
+    let (n, d) = match word.parse::<u32>() {
+        Ok(n) => (n, points::drawn(rt.alloc(), n)?),
+        Err(_) => points::of_file(rt.clone()?, word.as_str())?,
+    };
+    run(rt, n, &d)
 }
 RT
 echo "building .." >&2
-(cd "$work/crates/lpbench" && rt fmt >/dev/null 2>&1; rt run >"$work/log" 2>&1 || true)
+(cd "$work/crates/lpbench" && rt fmt >/dev/null 2>&1; rt run -- 10 >"$work/log" 2>&1 || true)
 program=$work/crates/lpbench/out/lpbench
 [ -x "$program" ] || { cat "$work/log" >&2; exit 1; }
-printf '%6s %6s %7s %12s %12s %12s %12s %7s %6s\n' n rows cols 'degrees (us)' 'all (us)' 'newest (us)' 'idle (us)' rounds rough
-for n in ${*:-100 200 500 1000 2000}; do
-    "$program" "$n" | while read -r n rows cols first all newest idle rounds rough; do
-        printf '%6s %6s %7s %12s %12s %12s %12s %7s %6s\n' "$n" "$rows" "$cols" "$first" "$all" "$newest" "$idle" "$rounds" "$rough"
-    done
+columns='%-14s %5s %6s %7s %10s %10s %10s %10s %7s %6s %10s\n'
+printf "$columns" what n rows cols 'first (us)' '+20 (us)' 'all (us)' 'idle (us)' rounds rough value
+if [ $# -eq 0 ]; then set -- 100 200 500 1000 2000 "$top"/../shared/instances/*.tsp; fi
+for what; do
+    printf "$columns" "$(basename "$what" .tsp)" $("$program" "$what")
 done
