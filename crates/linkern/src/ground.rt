@@ -13,21 +13,21 @@ const WIDTH: u32 = 8;
 
 /// A near city, and how far it is.
 #[derive(Clone, Copy)]
-pub struct Nearby {
-    pub city: u32,
-    pub far: u32,
+pub(crate) struct Nearby {
+    pub(crate) city: u32,
+    pub(crate) far: u32,
 }
 
 /// The tour as a path: the cities from a start on, which has rank 0, in one of the two directions.
 #[derive(Clone, Copy)]
-pub struct View {
+pub(crate) struct View {
     start: u32,
     against: bool,
 }
 
 /// The distances, the near lists, and the tour.
 #[derive(Drop)]
-pub struct Ground<'a> {
+pub(crate) struct Ground<'a> {
     instance: &'a Instance,
     near: Vec<Nearby>,
     width: usize,
@@ -36,7 +36,7 @@ pub struct Ground<'a> {
 }
 
 impl<'a> Ground<'a> {
-    pub fn new(
+    pub(crate) fn new(
         alloc: Global,
         instance: &'a Instance,
         near: &Neigh,
@@ -67,12 +67,12 @@ impl<'a> Ground<'a> {
 
     /// How many cities there are.
     #[inline]
-    pub fn n(&self) -> u32 {
+    pub(crate) fn n(&self) -> u32 {
         self.tour.n()
     }
 
     /// The tour.
-    pub fn into_tour(self) -> ArrayTour {
+    pub(crate) fn into_tour(self) -> ArrayTour {
         self.tour
     }
 
@@ -88,13 +88,13 @@ impl<'a> Ground<'a> {
 
     /// The distance of two cities.
     #[inline]
-    pub fn d(&self, a: u32, b: u32) -> i64 {
+    pub(crate) fn d(&self, a: u32, b: u32) -> i64 {
         i64::from(self.far(a, b))
     }
 
     /// The cities near to one, the nearest first.
     #[inline]
-    pub fn near(&self, a: u32) -> &[Nearby] {
+    pub(crate) fn near(&self, a: u32) -> &[Nearby] {
         let start = (a as usize).wrapping_mul(self.width);
         match self.near.get(start..start.wrapping_add(self.width)) {
             Some(row) => row,
@@ -103,7 +103,7 @@ impl<'a> Ground<'a> {
     }
 
     #[inline]
-    pub fn next(&self, a: u32) -> u32 {
+    pub(crate) fn next(&self, a: u32) -> u32 {
         if a < self.tour.n() {
             self.tour.next(a)
         } else {
@@ -112,7 +112,7 @@ impl<'a> Ground<'a> {
     }
 
     #[inline]
-    pub fn prev(&self, a: u32) -> u32 {
+    pub(crate) fn prev(&self, a: u32) -> u32 {
         if a < self.tour.n() {
             self.tour.prev(a)
         } else {
@@ -140,7 +140,7 @@ impl<'a> Ground<'a> {
 
     /// The tour as a path from a city on, in its direction or against it.
     #[inline]
-    pub fn view(&self, start: u32, against: bool) -> View {
+    pub(crate) fn view(&self, start: u32, against: bool) -> View {
         View {
             start: self.place(start),
             against,
@@ -149,7 +149,7 @@ impl<'a> Ground<'a> {
 
     /// How many steps a city is behind the start.
     #[inline]
-    pub fn rank(&self, view: View, a: u32) -> u32 {
+    pub(crate) fn rank(&self, view: View, a: u32) -> u32 {
         let place = self.place(a);
         let (from, to) = if view.against {
             (place, view.start)
@@ -165,7 +165,7 @@ impl<'a> Ground<'a> {
 
     /// The city so many steps behind the start.
     #[inline]
-    pub fn ranked(&self, view: View, rank: u32) -> u32 {
+    pub(crate) fn ranked(&self, view: View, rank: u32) -> u32 {
         let n = self.tour.n();
         if view.against {
             if rank <= view.start {
@@ -180,7 +180,7 @@ impl<'a> Ground<'a> {
     }
 
     /// Turns the path from `b` on to `c` round, and logs it.
-    pub fn turn(&mut self, b: u32, c: u32) -> Result<(), AllocError> {
+    pub(crate) fn turn(&mut self, b: u32, c: u32) -> Result<(), AllocError> {
         let n = self.tour.n();
         if b < n && c < n {
             self.tour.reverse_path(b, c);
@@ -190,7 +190,7 @@ impl<'a> Ground<'a> {
     }
 
     /// Turns back what was logged, the last first.
-    pub fn undo(&mut self) {
+    pub(crate) fn undo(&mut self) {
         for _ in 0..self.log.len() {
             let Some((b, c)) = self.log.pop() else { return };
             let n = self.tour.n();
@@ -201,7 +201,7 @@ impl<'a> Ground<'a> {
     }
 
     /// Forgets what was logged.
-    pub fn forget(&mut self) {
+    pub(crate) fn forget(&mut self) {
         self.log.clear();
     }
 }

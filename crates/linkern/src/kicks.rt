@@ -175,7 +175,7 @@ impl<'a> Work<'a> {
 }
 
 /// A tour that the search found from another on; nothing is known of it but that it is one.
-pub fn searched(
+pub(crate) fn searched(
     alloc: Global,
     instance: &Instance,
     near: &Neigh,

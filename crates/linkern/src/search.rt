@@ -86,7 +86,7 @@ struct Level {
 
 /// A search from one step of the tour.
 #[derive(Drop)]
-pub struct Search {
+pub(crate) struct Search {
     levels: Vec<Level>,
     parts: Vec<Part>,
     choices: Vec<Choice>,
@@ -236,7 +236,7 @@ fn cycles(ground: &Ground, view: View, t1: u32, t2: u32) -> [Cycle; 3] {
 }
 
 impl Search {
-    pub fn new(alloc: Global) -> Search {
+    pub(crate) fn new(alloc: Global) -> Search {
         Search {
             levels: Vec::new(alloc),
             parts: Vec::new(alloc),
@@ -248,7 +248,7 @@ impl Search {
     }
 
     /// The paths to be turned round for the better tour that was found, each from one city to another.
-    pub fn best(&self) -> &[(u32, u32)] {
+    pub(crate) fn best(&self) -> &[(u32, u32)] {
         &self.best
     }
 
@@ -446,7 +446,7 @@ impl Search {
 
     /// Looks for a better tour without the step from `t1` to `t2`, which is the next city, or the one before where the tour
     /// is read against its direction. By how much it is shorter; 0 where none was found.
-    pub fn from_step(
+    pub(crate) fn from_step(
         &mut self,
         ground: &Ground,
         t1: u32,

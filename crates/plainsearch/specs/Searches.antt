@@ -3,7 +3,8 @@ use Rattle.std.specs.Prelude.{◌≡◌, ℕ, ◌+◌, ◌*◌, ◌≤◌, ◌�
 use Rattle.tspdef.specs.Instances.{Instance, IsTourOf, length_in}
 use Rattle.tspdef.specs.Trees.{IsSoundFor, open_leaves, settled}
 use Rattle.treebook.specs.Tables.{tree_of}
-use Rattle.plainsearch.specs.Splits.{SplitsAreNeeded, opening_length}
+use Rattle.opening.specs.Openings.{opening_length}
+use Rattle.plainsearch.specs.Splits.{SplitsAreNeeded}
 use Rattle.plainsearch.specs.declared.searching.Found.{Found}
 
 -- The tree is sound for the best tour's length, which is no longer than the opening length, and no node was split that

@@ -1,7 +1,6 @@
 -- Which nodes may be split: those that zero duals do not close, and where a pair is undecided.
 use Rattle.std.specs.Prelude.{ℕ, List, [], ◌∷◌, ◌++◌, ◌≤ℤ◌}
-use Rattle.std.specs.List.{range_with_len}
-use Rattle.tspdef.specs.Instances.{Instance, length_in}
+use Rattle.tspdef.specs.Instances.{Instance}
 use Rattle.tspdef.specs.Paths.{Condition, absent, present, two, four, DecidesAll}
 use Rattle.tspdef.specs.Bounds.{bound, needed}
 use Rattle.tspdef.specs.Rays.{zero_closing}
@@ -18,7 +17,3 @@ SplitsAreNeeded i l path open_leaf = Unit {0}
 SplitsAreNeeded i l path (closed_leaf c) = Unit {0}
 SplitsAreNeeded i l path (edge_split u v a b) = IsOpenQuestion i l path × (SplitsAreNeeded i l (path ++ absent u v ∷ []) a × SplitsAreNeeded i l (path ++ present u v ∷ []) b)
 SplitsAreNeeded i l path (clique_split s a b) = IsOpenQuestion i l path × (SplitsAreNeeded i l (path ++ two s ∷ []) a × SplitsAreNeeded i l (path ++ four s ∷ []) b)
-
--- the length of the tour that a search starts with: the cities in their order
-abbrev pub opening_length : Instance → ℕ
-opening_length i = length_in i (range_with_len 0 i.n)

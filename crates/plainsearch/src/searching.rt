@@ -7,12 +7,14 @@ ghost use Rattle.tspdef.specs.Closings.{Fits, IsClosing};
 ghost use Rattle.tspdef.specs.Rays.{AreStepsOf};
 ghost use Rattle.treebook.specs.Tables.{IsOpen, MaySplit, path_at};
 ghost use Rattle.treebook.specs.Tree.{branch_of};
+ghost use Rattle.opening.specs.Openings.{IsOpening, opening_length};
 ghost use Rattle.plainsearch.specs.Splits.{IsOpenQuestion};
 ghost use Rattle.plainsearch.specs.Searches.{IsFound, HasSettled, HasOneMore, HasEnded};
 
 use crate::closings::zero_closing;
 use branchx::{Branch, Path, choose};
 use cyc::{Frac, Tour};
+use opening::Opening;
 use pathtour::{tour_of, used_pairs_are_one_tour};
 use pricer::{Closing, needed, ray};
 use std::alloc::{AllocError, Global};
@@ -27,24 +29,31 @@ pub struct Found {
     pub length: u64,
 }
 
-/// Starts with the cities in their order as the best tour, and works on open nodes, the one with the least number
-/// first, until none is open or `budget` nodes are settled. O(n^2 + depth) a node.
-pub fn search(alloc: Global, instance: &Instance, budget: u32) -> Result<Found, AllocError>
-    requires { budget ≤ 65536 }
+/// Starts with an opening's tour as the best one, and works on open nodes, the one with the least number first, until none
+/// is open or `budget` nodes are settled. O(n^2 + depth) a node.
+pub fn search(
+    alloc: Global,
+    instance: &Instance,
+    opening: Opening,
+    budget: u32,
+) -> Result<Found, AllocError>
+    requires opening { IsOpening instance.now opening }
+    requires few { budget ≤ 65536 }
     ensures found { IfOk result (IsFound instance.now) }
     ensures settled { IfOk result (λ s. (count : ℕ) × (count ≤ budget) × HasSettled count s) }
     ensures ended { IfOk result (HasEnded budget) }
 {
-    let mut found = start(alloc, instance)?;
+    let mut found = start(alloc, instance, opening.tour)?;
     work(alloc, instance, &mut found, budget)?;
     Ok(found)
 }
 
-fn start(alloc: Global, instance: &Instance) -> Result<Found, AllocError>
+fn start(alloc: Global, instance: &Instance, best: Tour) -> Result<Found, AllocError>
+    requires cities { length best ≡ instance.now.n }
+    requires no_longer { length_in instance.now best ≤ opening_length instance.now }
     ensures found { IfOk result (IsFound instance.now) }
     ensures settled { IfOk result (HasSettled 0) }
 {
-    let best = Tour::identity(alloc, instance.n())?;
     let _whole = best.cities();
     let length = instance.length(&best);
     Ok(Found {

@@ -8,7 +8,8 @@ use Rattle.certdef.specs.Proofs.{text}
 use Rattle.certdef.specs.Accepted.{from_zero, tree_in, IsAcceptedText}
 use Rattle.certform.specs.Written.{from_one, written, IsBody}
 use Rattle.certform.specs.Faithful.{IsFitting, AreAlike, WrittenIsFaithful, FaithfulIsAccepted}
-use Rattle.plainsearch.specs.Splits.{SplitsAreNeeded, opening_length}
+use Rattle.opening.specs.Openings.{opening_length}
+use Rattle.plainsearch.specs.Splits.{SplitsAreNeeded}
 use Rattle.tspengine.specs.Texts.{optimal_text, stopped_text}
 use Rattle.tspengine.specs.Outcomes.{IsOptimal, IsStopped}
 

@@ -5,7 +5,8 @@ use Rattle.tspdef.specs.Instances.{Instance, IsTourOf, length_in}
 use Rattle.tspdef.specs.Trees.{open_leaves, settled}
 use Rattle.certdef.specs.Proofs.{Proof, text}
 use Rattle.certdef.specs.Accepted.{HasForm, IsSoundProof, IsAcceptedText, IsTextOf, from_zero, tree_in}
-use Rattle.plainsearch.specs.Splits.{SplitsAreNeeded, opening_length}
+use Rattle.opening.specs.Openings.{opening_length}
+use Rattle.plainsearch.specs.Splits.{SplitsAreNeeded}
 use Rattle.tspengine.specs.Texts.{optimal_text, stopped_text}
 use Rattle.tspengine.specs.declared.outcomes.Outcome.{Outcome}
 use Rattle.tspengine.specs.declared.outcomes.Outcome.TheVariants as outcome

@@ -3,7 +3,8 @@ use Rattle.std.proofs.lemmas.List.{length-set}
 use Rattle.tspdef.specs.Trees.{settled}
 use Rattle.treebook.specs.Tree.{Table}
 use Rattle.treebook.specs.Tables.{IsTable, tree_of, closed_at}
-use Rattle.plainsearch.specs.Splits.{SplitsAreNeeded, opening_length}
+use Rattle.opening.specs.Openings.{opening_length}
+use Rattle.plainsearch.specs.Splits.{SplitsAreNeeded}
 use Rattle.plainsearch.proofs.Needs.{closed_needed}
 use Rattle.plainsearch.proofs.searching.close.Goals as goal
 

@@ -3,7 +3,8 @@ use Rattle.std.proofs.lemmas.List.{length-set, length-append}
 use Rattle.tspdef.specs.Trees.{settled, IsSoundFor}
 use Rattle.treebook.specs.Tree.{Table, branch_of}
 use Rattle.treebook.specs.Tables.{Node, IsTable, tree_of, path_at, split_at}
-use Rattle.plainsearch.specs.Splits.{SplitsAreNeeded, opening_length}
+use Rattle.opening.specs.Openings.{opening_length}
+use Rattle.plainsearch.specs.Splits.{SplitsAreNeeded}
 use Rattle.plainsearch.proofs.Needs.{splitting_needed, still_open}
 use Rattle.plainsearch.proofs.searching.split.Goals as goal
 
