@@ -1,4 +1,4 @@
 pub mod PlainWords
-pub mod Budgets
+pub mod Numbers
 pub mod Given
 pub mod Taken

@@ -14,9 +14,9 @@ use Rattle.clap.specs.declared.builder.value_parser.Reading.TheVariants as readi
 use Rattle.clap.specs.Values.{IsUnsignedIn}
 use Rattle.clap.specs.ValueTests.{is_unsigned_in}
 use Rattle.clap.specs.Simple.{matches_of}
-use Rattle.tspwords.specs.Program.{IsTaken, IsVerifierCall, command_word, rows_of_words, most_budget, verifier}
-use Rattle.tspwords.specs.Laws.{IsPlain, PathsAreTaken, BudgetsAreTaken, VerifyIsTaken, VerifierIsTaken}
-use Rattle.tspwords.proofs.Budgets.{in_unsigned}
+use Rattle.tspwords.specs.Program.{IsTaken, IsVerifierCall, command_word, rows_of_words, most_budget, most_seed, verifier}
+use Rattle.tspwords.specs.Laws.{IsPlain, PathsAreTaken, BudgetsAreTaken, SeedsAreTaken, BudgetsAndSeedsAreTaken, VerifyIsTaken, TourIsTaken, TourSeedsAreTaken, VerifierIsTaken}
+use Rattle.tspwords.proofs.Numbers.{in_unsigned}
 
 no_hyphen : (word : Text) → IsPlain word → strip_byte 45 word ≡ None
 no_hyphen [] plain = refl
@@ -36,8 +36,14 @@ not_dashes (x ∷ xs) plain = rw (ne_eqb x 45 plain) refl
 abbrev given : Text → Text → Row
 given id word = record { id = id; values = word ∷ []; count = None; source = Some CommandLine; reading = reading.AsWritten }
 
-abbrev default_budget : Row
-default_budget = record { id = codes "budget"; values = codes "65536" ∷ []; count = None; source = Some DefaultValue; reading = reading.AsWritten }
+abbrev filled : Text → Text → Row
+filled id word = record { id = id; values = word ∷ []; count = None; source = Some DefaultValue; reading = reading.AsWritten }
+
+abbrev default_budget_row : Row
+default_budget_row = filled (codes "budget") (codes "65536")
+
+abbrev default_seed_row : Row
+default_seed_row = filled (codes "seed") (codes "1")
 
 pub met_plain : (c : List Rule) (position : ℕ) (word : Text) (h : Held) → IsPlain word → word_met c [] false idle position word h ≡ (h, value)
 met_plain c position word h plain = rw (not_dashes word plain, not_long word plain, not_short word plain) refl
@@ -49,7 +55,7 @@ fault_free name a b c pa pb pc =
     rw (not_dashes a pa, not_long a pa, not_short a pa, not_dashes b pb, not_long b pb, not_short b pb, not_dashes c pc, not_long c pc, not_short c pc) refl
 
 rows_are : (name a b c : Text) → IsPlain a → IsPlain b → IsPlain c
-    → rows_of_words (name ∷ codes "solve" ∷ a ∷ b ∷ c ∷ []) ≡ given (codes "instance") a ∷ given (codes "proof") b ∷ given (codes "restart") c ∷ default_budget ∷ []
+    → rows_of_words (name ∷ codes "solve" ∷ a ∷ b ∷ c ∷ []) ≡ given (codes "instance") a ∷ given (codes "proof") b ∷ given (codes "restart") c ∷ default_budget_row ∷ default_seed_row ∷ []
 unfolding clap_on_literals
 rows_are name a b c pa pb pc =
     rw (not_dashes a pa, not_long a pa, not_short a pa, not_dashes b pb, not_long b pb, not_short b pb, not_dashes c pc, not_long c pc, not_short c pc) refl
@@ -66,12 +72,13 @@ paths_taken name a b c pa pb pc =
       proof_is = rw rows refl;
       restart_is = rw rows refl;
       budget_is = rw rows refl;
+      seed_is = rw rows refl;
     }
 
 -- a number does not begin with a hyphen
-number_is_plain : (word : Text) → IsUnsignedIn 0 most_budget word → IsPlain word
-number_is_plain [] h e = absurd (omega arith)
-number_is_plain (x ∷ xs) h e =
+number_is_plain : (most : ℕ) (word : Text) → IsUnsignedIn 0 most word → IsPlain word
+number_is_plain most [] h e = absurd (omega arith)
+number_is_plain most (x ∷ xs) h e =
     let same : without_leading_plus (x ∷ xs) ≡ x ∷ xs = without_leading_plus_none (x ∷ xs) (λ p. absurd (omega arith)) in
     let numeral : IsNumeral 10 (x ∷ xs) = subst (IsNumeral 10) same h.0 in
     absurd (omega (arith, digit_from_value x numeral.1.0))
@@ -84,7 +91,7 @@ budget_fault_free name a b c d pa pb pc pd is =
     (subst (λ (b : Bool). or_else (or_else (or_else (cond b [] (kind.ValueValidation ∷ [])) []) []) [] ≡ []) (sym is) refl)
 
 budget_rows_are : (name a b c d : Text) → IsPlain a → IsPlain b → IsPlain c → IsPlain d
-    → rows_of_words (name ∷ codes "solve" ∷ a ∷ b ∷ c ∷ codes "--budget" ∷ d ∷ []) ≡ given (codes "instance") a ∷ given (codes "proof") b ∷ given (codes "restart") c ∷ given (codes "budget") d ∷ []
+    → rows_of_words (name ∷ codes "solve" ∷ a ∷ b ∷ c ∷ codes "--budget" ∷ d ∷ []) ≡ given (codes "instance") a ∷ given (codes "proof") b ∷ given (codes "restart") c ∷ given (codes "budget") d ∷ default_seed_row ∷ []
 unfolding clap_on_literals
 budget_rows_are name a b c d pa pb pc pd =
     rw (not_dashes a pa, not_long a pa, not_short a pa, not_dashes b pb, not_long b pb, not_short b pb, not_dashes c pc, not_long c pc, not_short c pc, not_dashes d pd, not_long d pd, not_short d pd) refl
@@ -95,14 +102,122 @@ named_budget name a b c d = refl
 
 pub budgets_taken : BudgetsAreTaken
 budgets_taken name a b c d pa pb pc fits =
-    let pd = number_is_plain d fits in
-    let is = in_unsigned d fits in
+    let pd = number_is_plain most_budget d fits in
+    let is = in_unsigned 0 most_budget d fits in
     let rows = budget_rows_are name a b c d pa pb pc pd in record {
       call = record { taken = budget_fault_free name a b c d pa pb pc pd is; named = named_budget name a b c d };
       instance_is = rw rows refl;
       proof_is = rw rows refl;
       restart_is = rw rows refl;
       budget_is = rw rows refl;
+      seed_is = rw rows refl;
+    }
+
+-- `--seed S`
+seed_fault_free : (name a b c d : Text) → IsPlain a → IsPlain b → IsPlain c → IsPlain d → is_unsigned_in 0 most_seed d ≡ true
+    → IsTaken (name ∷ codes "solve" ∷ a ∷ b ∷ c ∷ codes "--seed" ∷ d ∷ [])
+unfolding clap_on_literals
+seed_fault_free name a b c d pa pb pc pd is =
+    rw (not_dashes a pa, not_long a pa, not_short a pa, not_dashes b pb, not_long b pb, not_short b pb, not_dashes c pc, not_long c pc, not_short c pc, not_dashes d pd, not_long d pd, not_short d pd)
+    (subst (λ (b : Bool). or_else (or_else (or_else (cond b [] (kind.ValueValidation ∷ [])) []) []) [] ≡ []) (sym is) refl)
+
+seed_rows_are : (name a b c d : Text) → IsPlain a → IsPlain b → IsPlain c → IsPlain d
+    → rows_of_words (name ∷ codes "solve" ∷ a ∷ b ∷ c ∷ codes "--seed" ∷ d ∷ []) ≡ given (codes "instance") a ∷ given (codes "proof") b ∷ given (codes "restart") c ∷ given (codes "seed") d ∷ default_budget_row ∷ []
+unfolding clap_on_literals
+seed_rows_are name a b c d pa pb pc pd =
+    rw (not_dashes a pa, not_long a pa, not_short a pa, not_dashes b pb, not_long b pb, not_short b pb, not_dashes c pc, not_long c pc, not_short c pc, not_dashes d pd, not_long d pd, not_short d pd) refl
+
+named_seed : (name a b c d : Text) → command_word (name ∷ codes "solve" ∷ a ∷ b ∷ c ∷ codes "--seed" ∷ d ∷ []) ≡ codes "solve"
+unfolding clap_on_literals
+named_seed name a b c d = refl
+
+pub seeds_taken : SeedsAreTaken
+seeds_taken name a b c d pa pb pc fits =
+    let pd = number_is_plain most_seed d fits in
+    let is = in_unsigned 0 most_seed d fits in
+    let rows = seed_rows_are name a b c d pa pb pc pd in record {
+      call = record { taken = seed_fault_free name a b c d pa pb pc pd is; named = named_seed name a b c d };
+      instance_is = rw rows refl;
+      proof_is = rw rows refl;
+      restart_is = rw rows refl;
+      budget_is = rw rows refl;
+      seed_is = rw rows refl;
+    }
+
+-- `--budget N --seed S`
+both_fault_free : (name a b c d e : Text) → IsPlain a → IsPlain b → IsPlain c → IsPlain d → IsPlain e → is_unsigned_in 0 most_budget d ≡ true → is_unsigned_in 0 most_seed e ≡ true
+    → IsTaken (name ∷ codes "solve" ∷ a ∷ b ∷ c ∷ codes "--budget" ∷ d ∷ codes "--seed" ∷ e ∷ [])
+unfolding clap_on_literals
+both_fault_free name a b c d e pa pb pc pd pe is_d is_e =
+    rw (not_dashes a pa, not_long a pa, not_short a pa, not_dashes b pb, not_long b pb, not_short b pb, not_dashes c pc, not_long c pc, not_short c pc, not_dashes d pd, not_long d pd, not_short d pd, not_dashes e pe, not_long e pe, not_short e pe)
+    ?
+
+both_rows_are : (name a b c d e : Text) → IsPlain a → IsPlain b → IsPlain c → IsPlain d → IsPlain e
+    → rows_of_words (name ∷ codes "solve" ∷ a ∷ b ∷ c ∷ codes "--budget" ∷ d ∷ codes "--seed" ∷ e ∷ []) ≡ given (codes "instance") a ∷ given (codes "proof") b ∷ given (codes "restart") c ∷ given (codes "budget") d ∷ given (codes "seed") e ∷ []
+unfolding clap_on_literals
+both_rows_are name a b c d e pa pb pc pd pe =
+    rw (not_dashes a pa, not_long a pa, not_short a pa, not_dashes b pb, not_long b pb, not_short b pb, not_dashes c pc, not_long c pc, not_short c pc, not_dashes d pd, not_long d pd, not_short d pd, not_dashes e pe, not_long e pe, not_short e pe) refl
+
+named_both : (name a b c d e : Text) → command_word (name ∷ codes "solve" ∷ a ∷ b ∷ c ∷ codes "--budget" ∷ d ∷ codes "--seed" ∷ e ∷ []) ≡ codes "solve"
+unfolding clap_on_literals
+named_both name a b c d e = refl
+
+pub both_taken : BudgetsAndSeedsAreTaken
+both_taken name a b c d e pa pb pc fits_d fits_e =
+    let pd = number_is_plain most_budget d fits_d in
+    let pe = number_is_plain most_seed e fits_e in
+    let rows = both_rows_are name a b c d e pa pb pc pd pe in record {
+      call = record { taken = both_fault_free name a b c d e pa pb pc pd pe (in_unsigned 0 most_budget d fits_d) (in_unsigned 0 most_seed e fits_e); named = named_both name a b c d e };
+      instance_is = rw rows refl;
+      proof_is = rw rows refl;
+      restart_is = rw rows refl;
+      budget_is = rw rows refl;
+      seed_is = rw rows refl;
+    }
+
+-- ---- `tour`
+
+tour_fault_free : (name a : Text) → IsPlain a → IsTaken (name ∷ codes "tour" ∷ a ∷ [])
+unfolding clap_on_literals
+tour_fault_free name a pa = rw (not_dashes a pa, not_long a pa, not_short a pa) refl
+
+tour_rows_are : (name a : Text) → IsPlain a → rows_of_words (name ∷ codes "tour" ∷ a ∷ []) ≡ given (codes "instance") a ∷ default_seed_row ∷ []
+unfolding clap_on_literals
+tour_rows_are name a pa = rw (not_dashes a pa, not_long a pa, not_short a pa) refl
+
+named_tour : (name a : Text) → command_word (name ∷ codes "tour" ∷ a ∷ []) ≡ codes "tour"
+unfolding clap_on_literals
+named_tour name a = refl
+
+pub tour_taken : TourIsTaken
+tour_taken name a pa =
+    let rows = tour_rows_are name a pa in record {
+      call = record { taken = tour_fault_free name a pa; named = named_tour name a };
+      instance_is = rw rows refl;
+      seed_is = rw rows refl;
+    }
+
+tour_seed_fault_free : (name a d : Text) → IsPlain a → IsPlain d → is_unsigned_in 0 most_seed d ≡ true → IsTaken (name ∷ codes "tour" ∷ a ∷ codes "--seed" ∷ d ∷ [])
+unfolding clap_on_literals
+tour_seed_fault_free name a d pa pd is =
+    rw (not_dashes a pa, not_long a pa, not_short a pa, not_dashes d pd, not_long d pd, not_short d pd)
+    (subst (λ (b : Bool). or_else (or_else (or_else (cond b [] (kind.ValueValidation ∷ [])) []) []) [] ≡ []) (sym is) refl)
+
+tour_seed_rows_are : (name a d : Text) → IsPlain a → IsPlain d → rows_of_words (name ∷ codes "tour" ∷ a ∷ codes "--seed" ∷ d ∷ []) ≡ given (codes "instance") a ∷ given (codes "seed") d ∷ []
+unfolding clap_on_literals
+tour_seed_rows_are name a d pa pd = rw (not_dashes a pa, not_long a pa, not_short a pa, not_dashes d pd, not_long d pd, not_short d pd) refl
+
+named_tour_seed : (name a d : Text) → command_word (name ∷ codes "tour" ∷ a ∷ codes "--seed" ∷ d ∷ []) ≡ codes "tour"
+unfolding clap_on_literals
+named_tour_seed name a d = refl
+
+pub tour_seeds_taken : TourSeedsAreTaken
+tour_seeds_taken name a d pa fits =
+    let pd = number_is_plain most_seed d fits in
+    let rows = tour_seed_rows_are name a d pa pd in record {
+      call = record { taken = tour_seed_fault_free name a d pa pd (in_unsigned 0 most_seed d fits); named = named_tour_seed name a d };
+      instance_is = rw rows refl;
+      seed_is = rw rows refl;
     }
 
 -- ---- `verify` and the verifier

@@ -1,5 +1,5 @@
 -- What words that are taken give.
-use Rattle.std.proofs.Common.{◌≡◌, ◌<◌, ◌||◌, ◌&&◌, ◌⊎◌, Bool, true, false, cond, List, [], ◌∷◌, ◌++◌, length, fold, refl, sym, ap, subst, ◌∙◌, arith, not, inl, inr, Option, Some, None, is_some, codes, Result, Ok, Err, IfOk}
+use Rattle.std.proofs.Common.{◌≡◌, ◌<◌, ◌||◌, ◌&&◌, ◌⊎◌, ℕ, Bool, true, false, cond, List, [], ◌∷◌, ◌++◌, length, fold, refl, sym, ap, subst, ◌∙◌, arith, not, inl, inr, Option, Some, None, is_some, codes, Result, Ok, Err, IfOk}
 use Rattle.std.specs.Prelude.{find, slice_get, unwrap_or, option_and_then, option_map}
 use Rattle.std.specs.Option.{option_map_or}
 use Rattle.std.specs.List.{list_any, slice_index_or}
@@ -18,16 +18,18 @@ use Rattle.clap.specs.Simple.{App, Shape, argument_words, matches_of, subcommand
 use Rattle.clap.specs.Takes.{is_given}
 use Rattle.clap.specs.Faults.{check_fault, entered_fault, fault_of, level_fault, values_fault}
 use Rattle.clap.specs.declared.builder.value_parser.Reading.{Reading}
+use Rattle.clap.specs.declared.builder.value_parser.ValueParser.TheVariants as parser
 use Rattle.clap.specs.declared.parser.matches.ValueSource.{ValueSource}
 use Rattle.clap.specs.declared.parser.matches.ValueSource.TheVariants.{DefaultValue}
-use Rattle.tspwords.specs.Program.{program, verifier, IsTaken, IsVerifierCall, command_word, rows_of_words, word_in, word_for, most_budget, number_of, solve_shape, verify_shape}
+use Rattle.tspwords.specs.Program.{program, verifier, IsTaken, IsVerifierCall, command_word, rows_of_words, word_in, word_for, seed_of, most_budget, most_seed, default_seed, solve_shape, verify_shape, tour_shape}
 use Rattle.tspwords.specs.Laws.{TakenWordsAreGiven, VerifierWordsAreGiven}
-use Rattle.tspwords.specs.Found.{IsSolveOf, IsVerifyOf, budget_in}
-use Rattle.tspwords.specs.Says.{SaysSolve, SaysVerify, SaysPaths}
+use Rattle.tspwords.specs.Found.{IsSolveOf, IsVerifyOf, IsTourOf, budget_in, seed_in}
+use Rattle.tspwords.specs.Says.{SaysSolve, SaysVerify, SaysTour, SaysPaths}
 use Rattle.tspwords.specs.declared.words.Solve.{Solve}
+use Rattle.tspwords.specs.declared.words.TourWords.{TourWords}
 use Rattle.tspwords.specs.declared.words.VerifyWords.{VerifyWords}
-use Rattle.tspwords.proofs.Budgets.{unsigned_in}
-use Rattle.tspwords.proofs.Given.{Each, IsGood, ArePlain, IsFound, first_free, level_found}
+use Rattle.tspwords.proofs.Numbers.{unsigned_in, number_taken}
+use Rattle.tspwords.proofs.Given.{Each, IsGood, IsPlainRule, ArePlain, IsFound, first_free, level_found}
 
 -- `solve` as the parser has it
 abbrev pub solve_built : Shape
@@ -37,7 +39,11 @@ solve_built = built_leaf (inherited (built program).top solve_shape)
 abbrev pub verify_built : Shape
 verify_built = built_leaf (inherited (built program).top verify_shape)
 
-subs_are : (built program).subs ≡ solve_built ∷ verify_built ∷ []
+-- `tour` as the parser has it
+abbrev pub tour_built : Shape
+tour_built = built_leaf (inherited (built program).top tour_shape)
+
+subs_are : (built program).subs ≡ solve_built ∷ verify_built ∷ tour_built ∷ []
 subs_are = refl
 
 -- the verifier as the parser has it
@@ -45,10 +51,13 @@ abbrev pub verifier_built : Shape
 verifier_built = (built verifier).top
 
 solve_plain : ArePlain solve_built.rules
-solve_plain = (record { own = refl; kind = inl (record { set = refl; least = refl; most = refl }) }, (record { own = refl; kind = inl (record { set = refl; least = refl; most = refl }) }, (record { own = refl; kind = inl (record { set = refl; least = refl; most = refl }) }, (record { own = refl; kind = inl (record { set = refl; least = refl; most = refl }) }, (record { own = refl; kind = inr refl }, tt)))))
+solve_plain = (record { own = refl; kind = inl (record { set = refl; least = refl; most = refl }) }, (record { own = refl; kind = inl (record { set = refl; least = refl; most = refl }) }, (record { own = refl; kind = inl (record { set = refl; least = refl; most = refl }) }, (record { own = refl; kind = inl (record { set = refl; least = refl; most = refl }) }, (record { own = refl; kind = inl (record { set = refl; least = refl; most = refl }) }, (record { own = refl; kind = inr refl }, tt))))))
 
 verify_plain : ArePlain verify_built.rules
 verify_plain = (record { own = refl; kind = inl (record { set = refl; least = refl; most = refl }) }, (record { own = refl; kind = inl (record { set = refl; least = refl; most = refl }) }, (record { own = refl; kind = inr refl }, tt)))
+
+tour_plain : ArePlain tour_built.rules
+tour_plain = (record { own = refl; kind = inl (record { set = refl; least = refl; most = refl }) }, (record { own = refl; kind = inl (record { set = refl; least = refl; most = refl }) }, (record { own = refl; kind = inr refl }, tt)))
 
 verifier_plain : ArePlain verifier_built.rules
 verifier_plain = (record { own = refl; kind = inl (record { set = refl; least = refl; most = refl }) }, (record { own = refl; kind = inl (record { set = refl; least = refl; most = refl }) }, (record { own = refl; kind = inr refl }, tt)))
@@ -107,14 +116,6 @@ has_values id how s vs (r ∷ rs) = go (bytes_eq r.id id) refl (has_values id ho
     go true e rest = ap (λ b. b || list_any (λ r. bytes_eq r.id id) rs) e
     go false e rest = ap (λ b. b || has_row id (with_values id how s vs rs)) e ∙ rest
 
-no_default : (rows : List Row) (a : Rule) → a.defaults ≡ [] → with_default rows a ≡ rows
-no_default rows a e = go (has_row a.id rows) a.defaults e
-  where
-    go : (b : Bool) (vs : List Text) → vs ≡ [] → cond b rows (default_rows a.id (reading_by a) vs rows) ≡ rows
-    go true vs e = refl
-    go false [] e = refl
-    go false (v ∷ vs) e = cc
-
 has_default : (rows : List Row) (a : Rule) (v : Text) (vs : List Text) → a.defaults ≡ v ∷ vs → has_row a.id (with_default rows a) ≡ true
 has_default rows a v vs e = go (has_row a.id rows) refl a.defaults e
   where
@@ -122,6 +123,48 @@ has_default rows a v vs e = go (has_row a.id rows) refl a.defaults e
     go true is ds f = is
     go false is [] f = cc
     go false is (d ∷ ds) f = has_values a.id (reading_by a) DefaultValue (d ∷ ds) rows
+
+either_kept : (a b c : Bool) → (a || b) ≡ true → (b ≡ true → c ≡ true) → (a || c) ≡ true
+either_kept true b c e more = refl
+either_kept false b c e more = more e
+
+-- a row that is there stays
+kept_by_values : (id own : Text) (how : Reading) (s : ValueSource) (vs : List Text) (rows : List Row) → has_row id rows ≡ true → has_row id (with_values own how s vs rows) ≡ true
+kept_by_values id own how s vs [] e = cc
+kept_by_values id own how s vs (r ∷ rs) e = go (bytes_eq r.id own) (kept_by_values id own how s vs rs)
+  where
+    go : (b : Bool) → (has_row id rs ≡ true → has_row id (with_values own how s vs rs) ≡ true)
+        → has_row id (cond b (more_values s vs r ++ rs) (r ∷ with_values own how s vs rs)) ≡ true
+    go true rest = e
+    go false rest = either_kept (bytes_eq r.id id) (has_row id rs) (has_row id (with_values own how s vs rs)) e rest
+
+kept_by_default : (id : Text) (rows : List Row) (a : Rule) → has_row id rows ≡ true → has_row id (with_default rows a) ≡ true
+kept_by_default id rows a e = go (has_row a.id rows) a.defaults
+  where
+    go : (b : Bool) (vs : List Text) → has_row id (cond b rows (default_rows a.id (reading_by a) vs rows)) ≡ true
+    go true vs = e
+    go false [] = e
+    go false (v ∷ vs) = kept_by_values id a.id (reading_by a) DefaultValue (v ∷ vs) rows e
+
+kept : (id : Text) (rows : List Row) (xs : List Rule) → has_row id rows ≡ true → has_row id (fold with_default rows xs) ≡ true
+kept id rows [] e = e
+kept id rows (x ∷ xs) e = kept id (with_default rows x) xs (kept_by_default id rows x e)
+
+some_rule : (a b : Rule) → Some a ≡ Some b → a ≡ b
+some_rule a b e = cc
+
+-- an argument that has a default has a row in the end
+filled : (id : Text) (rows : List Row) (xs : List Rule) (a : Rule) (v : Text) (vs : List Text) → arg_by_id xs id ≡ Some a → a.id ≡ id → a.defaults ≡ v ∷ vs → has_row id (fold with_default rows xs) ≡ true
+filled id rows [] a v vs own is e = cc
+filled id rows (x ∷ xs) a v vs own is e = go (bytes_eq x.id id) own (λ f. filled id (with_default rows x) xs a v vs f is e)
+  where
+    go : (b : Bool) → cond b (Some x) (arg_by_id xs id) ≡ Some a → (arg_by_id xs id ≡ Some a → has_row id (fold with_default (with_default rows x) xs) ≡ true)
+        → has_row id (fold with_default (with_default rows x) xs) ≡ true
+    go true f rest =
+        let same : x ≡ a = some_rule x a f in
+        let there : has_row x.id (with_default rows x) ≡ true = has_default rows x v vs (ap (λ y. y.defaults) same ∙ e) in
+        kept id (with_default rows x) xs (subst (λ t. has_row t (with_default rows x) ≡ true) (ap (λ y. y.id) same ∙ is) there)
+    go false f rest = rest f
 
 found_row : (id : Text) (rows : List Row) → has_row id rows ≡ true → (r : Row) × (find (λ r. bytes_eq r.id id) rows ≡ Some r)
 found_row id [] e = cc
@@ -139,21 +182,13 @@ three_given true true false e = cc
 three_given true false z e = cc
 three_given false y z e = cc
 
-has_budget : (rows : List Row) → has_row (codes "budget") (fold with_default rows solve_built.rules) ≡ true
-has_budget rows =
-    let one = no_default rows (slice_index_or solve_built.rules 0 help_rule) refl in
-    let two = no_default rows (slice_index_or solve_built.rules 1 help_rule) refl in
-    let three = no_default rows (slice_index_or solve_built.rules 2 help_rule) refl in
-    let filled = with_default rows (slice_index_or solve_built.rules 3 help_rule) in
-    let help = no_default filled (slice_index_or solve_built.rules 4 help_rule) refl in
-    rw (one, two, three, help) (has_default rows (slice_index_or solve_built.rules 3 help_rule) (codes "65536") [] refl)
-
 -- what is found for `solve`
 pub record IsWhole (rows : List Row) : Type 0 where
   pub instance : first_of (codes "instance") rows ≡ Some (word_in (codes "instance") rows)
   pub proof : first_of (codes "proof") rows ≡ Some (word_in (codes "proof") rows)
   pub restart : first_of (codes "restart") rows ≡ Some (word_in (codes "restart") rows)
   pub budget : is_unsigned_in 0 most_budget (word_in (codes "budget") rows) ≡ true
+  pub seed : is_unsigned_in 0 most_seed (word_in (codes "seed") rows) ≡ true
 
 word_is : (id : Text) (rows : List Row) (v : Text) → first_of id rows ≡ Some v → first_of id rows ≡ Some (word_in id rows)
 word_is id rows v e = e ∙ ap (λ o. Some (unwrap_or o [])) (sym e)
@@ -166,13 +201,32 @@ path_whole s words id a own found given =
     let w = word_found s.rules id rows a r.0 own found.good r.1 in
     word_is id rows w.word w.first
 
-budget_whole : (words : List Text) → IsFound solve_built words → is_unsigned_in 0 most_budget (word_in (codes "budget") (rows_after solve_built.rules [] words)) ≡ true
-budget_whole words found =
-    let rows = rows_after solve_built.rules [] words in
-    let r = found_row (codes "budget") rows (has_budget (settled solve_built.rules (walk solve_built.rules [] nothing_held words).held).rows) in
-    let w = word_found solve_built.rules (codes "budget") rows (slice_index_or solve_built.rules 3 help_rule) r.0 refl found.good r.1 in
-    let is : word_in (codes "budget") rows ≡ w.word = ap (λ o. unwrap_or o []) w.first in
-    subst (λ t. is_unsigned_in 0 most_budget t ≡ true) (sym is) w.passes
+-- an argument that takes a number from `least` to `most`, and has a default
+record TakesNumber (s : Shape) (id : Text) (least most : ℕ) : Type 0 where
+  rule : Rule
+  own : arg_by_id s.rules id ≡ Some rule
+  is : rule.id ≡ id
+  reads : parser_of_value rule.parser ≡ parser.Unsigned least most
+  default : Text
+  fills : rule.defaults ≡ default ∷ []
+
+number_whole : (s : Shape) (words : List Text) (id : Text) (least most : ℕ) → TakesNumber s id least most → IsFound s words → is_unsigned_in least most (word_in id (rows_after s.rules [] words)) ≡ true
+number_whole s words id least most takes found =
+    let rows = rows_after s.rules [] words in
+    let r = found_row id rows (filled id (settled s.rules (walk s.rules [] nothing_held words).held).rows s.rules takes.rule takes.default [] takes.own takes.is takes.fills) in
+    let w = word_found s.rules id rows takes.rule r.0 takes.own found.good r.1 in
+    let is : word_in id rows ≡ w.word = ap (λ o. unwrap_or o []) w.first in
+    let passes : is_unsigned_in least most w.word ≡ true = subst (λ p. accepts takes.rule.ignore_case p w.word ≡ true) takes.reads w.passes in
+    subst (λ t. is_unsigned_in least most t ≡ true) (sym is) passes
+
+solve_budget : TakesNumber solve_built (codes "budget") 0 most_budget
+solve_budget = record { rule = slice_index_or solve_built.rules 3 help_rule; own = refl; is = refl; reads = refl; default = codes "65536"; fills = refl }
+
+solve_seed : TakesNumber solve_built (codes "seed") 0 most_seed
+solve_seed = record { rule = slice_index_or solve_built.rules 4 help_rule; own = refl; is = refl; reads = refl; default = codes "1"; fills = refl }
+
+tour_seed : TakesNumber tour_built (codes "seed") 0 most_seed
+tour_seed = record { rule = slice_index_or tour_built.rules 1 help_rule; own = refl; is = refl; reads = refl; default = codes "1"; fills = refl }
 
 pub solve_whole : (words : List Text) → IsFound solve_built words → IsWhole (rows_after solve_built.rules [] words)
 solve_whole words found =
@@ -181,7 +235,26 @@ solve_whole words found =
       instance = path_whole solve_built words (codes "instance") (slice_index_or solve_built.rules 0 help_rule) refl found given.0;
       proof = path_whole solve_built words (codes "proof") (slice_index_or solve_built.rules 1 help_rule) refl found given.1;
       restart = path_whole solve_built words (codes "restart") (slice_index_or solve_built.rules 2 help_rule) refl found given.2;
-      budget = budget_whole words found;
+      budget = number_whole solve_built words (codes "budget") 0 most_budget solve_budget found;
+      seed = number_whole solve_built words (codes "seed") 0 most_seed solve_seed found;
+    }
+
+-- ---- the words of `tour`
+
+one_given : (x : Bool) → check_kinds false false (not x || false) ≡ [] → x ≡ true
+one_given true e = refl
+one_given false e = cc
+
+-- what is found for `tour`
+pub record IsWholeTour (rows : List Row) : Type 0 where
+  pub instance : first_of (codes "instance") rows ≡ Some (word_in (codes "instance") rows)
+  pub seed : is_unsigned_in 0 most_seed (word_in (codes "seed") rows) ≡ true
+
+tour_whole : (words : List Text) → IsFound tour_built words → IsWholeTour (rows_after tour_built.rules [] words)
+tour_whole words found =
+    let given = one_given (is_given (codes "instance") (rows_after tour_built.rules [] words)) found.checked in record {
+      instance = path_whole tour_built words (codes "instance") (slice_index_or tour_built.rules 0 help_rule) refl found given;
+      seed = number_whole tour_built words (codes "seed") 0 most_seed tour_seed found;
     }
 
 -- ---- the words of `verify` and of the verifier
@@ -229,16 +302,21 @@ verifier_given words taken = let whole = verifier_taken words taken in record { 
 -- ---- the program
 
 -- the words name this command, and its arguments are found
-record IsWholeSolve (name : Text) (rows : List Row) : Type 0 where
-  named : name ≡ codes "solve"
-  whole : IsWhole rows
+record IsWholeOf (command : Text) (Whole : List Row → Type 0) (o : Option (Text × List Row)) : Type 0 where
+  named : option_map_or (λ p. p.0) o [] ≡ command
+  whole : Whole (option_map_or (λ p. p.1) o [])
 
-record IsWholeVerify (name : Text) (rows : List Row) : Type 0 where
-  named : name ≡ codes "verify"
-  paths : HasPaths rows
+abbrev IsSolveFound : Option (Text × List Row) → Type 0
+IsSolveFound o = IsWholeOf (codes "solve") IsWhole o
+
+abbrev IsVerifyFound : Option (Text × List Row) → Type 0
+IsVerifyFound o = IsWholeOf (codes "verify") HasPaths o
+
+abbrev IsTourFound : Option (Text × List Row) → Type 0
+IsTourFound o = IsWholeOf (codes "tour") IsWholeTour o
 
 abbrev IsWholeCall : Option (Text × List Row) → Type 0
-IsWholeCall o = IsWholeSolve (option_map_or (λ p. p.0) o []) (option_map_or (λ p. p.1) o []) ⊎ IsWholeVerify (option_map_or (λ p. p.0) o []) (option_map_or (λ p. p.1) o [])
+IsWholeCall o = IsSolveFound o ⊎ (IsVerifyFound o ⊎ IsTourFound o)
 
 four_free : (w b s d c : Kinds) → or_else w (or_else b (or_else s (or_else d c))) ≡ [] → (b ≡ []) × (c ≡ [])
 four_free [] [] [] [] c e = (refl, e)
@@ -253,14 +331,18 @@ no_command rows e = cc
 entered_whole : (rows : List Row) (stop : Option (Text × List Text)) → entered_fault (built program) stop ≡ [] → check_fault (built program).top rows (is_some (entered (built program) stop)) ≡ []
     → IsWholeCall (entered (built program) stop)
 entered_whole rows None below checks = absurd (no_command rows checks)
-entered_whole rows (Some p) below checks = go (answers_to p.0 (label_of solve_built)) (answers_to p.0 (label_of verify_built)) below checks
+entered_whole rows (Some p) below checks = go (answers_to p.0 (label_of solve_built)) (answers_to p.0 (label_of verify_built)) (answers_to p.0 (label_of tour_built)) below checks
   where
-    go : (b v : Bool) → option_map_or (λ s. level_fault s [] nothing_held p.1 false []) (cond b (Some solve_built) (cond v (Some verify_built) None)) [] ≡ []
-        → check_fault (built program).top rows (is_some (option_map (λ s. rows_at s p.1) (cond b (Some solve_built) (cond v (Some verify_built) None)))) ≡ []
-        → IsWholeCall (option_map (λ s. rows_at s p.1) (cond b (Some solve_built) (cond v (Some verify_built) None)))
-    go true v below checks = inl (record { named = refl; whole = solve_whole p.1 (level_found solve_built p.1 solve_plain below) })
-    go false true below checks = inr (record { named = refl; paths = verify_whole p.1 (level_found verify_built p.1 verify_plain below) })
-    go false false below checks = absurd (no_command rows checks)
+    found : (b v t : Bool) → Option Shape
+    found b v t = cond b (Some solve_built) (cond v (Some verify_built) (cond t (Some tour_built) None))
+
+    go : (b v t : Bool) → option_map_or (λ s. level_fault s [] nothing_held p.1 false []) (found b v t) [] ≡ []
+        → check_fault (built program).top rows (is_some (option_map (λ s. rows_at s p.1) (found b v t))) ≡ []
+        → IsWholeCall (option_map (λ s. rows_at s p.1) (found b v t))
+    go true v t below checks = inl (record { named = refl; whole = solve_whole p.1 (level_found solve_built p.1 solve_plain below) })
+    go false true t below checks = inr (inl (record { named = refl; whole = verify_whole p.1 (level_found verify_built p.1 verify_plain below) }))
+    go false false true below checks = inr (inr (record { named = refl; whole = tour_whole p.1 (level_found tour_built p.1 tour_plain below) }))
+    go false false false below checks = absurd (no_command rows checks)
 
 taken_whole : (words : List Text) → IsTaken words → IsWholeCall (subcommand_of program words)
 taken_whole words taken =
@@ -276,50 +358,79 @@ taken_given words taken = elim (taken_whole words taken) [
     instance = solve.whole.instance;
     proof = solve.whole.proof;
     restart = solve.whole.restart;
-    budget = unsigned_in (word_for (codes "budget") words) solve.whole.budget;
+    budget = unsigned_in 0 most_budget (word_for (codes "budget") words) solve.whole.budget;
+    seed = unsigned_in 0 most_seed (word_for (codes "seed") words) solve.whole.seed;
   })
-  | inr verify ↦ inr (record {
+  | inr (inl verify) ↦ inr (inl (record {
     named = record { taken = taken; named = verify.named };
-    instance = verify.paths.instance;
-    proof = verify.paths.proof;
-  })
+    instance = verify.whole.instance;
+    proof = verify.whole.proof;
+  }))
+  | inr (inr tour) ↦ inr (inr (record {
+    named = record { taken = taken; named = tour.named };
+    instance = tour.whole.instance;
+    seed = unsigned_in 0 most_seed (word_for (codes "seed") words) tour.whole.seed;
+  }))
 ]
+
+-- no command has another one's name
+apart : (name a b : Text) → name ≡ a → name ≡ b → bytes_eq a b ≡ false → ⊥
+apart name a b is also other = let e = (bytes_eq-Decides a b).1 (sym is ∙ also) in cc
 
 -- the words name the command that was found
 whole_solve : (words : List Text) → IsTaken words → command_word words ≡ codes "solve" → IsWhole (rows_of_words words)
 whole_solve words taken is = elim (taken_whole words taken) [
   | inl solve ↦ solve.whole
-  | inr verify ↦ absurd (other (sym is ∙ verify.named))
+  | inr (inl verify) ↦ absurd (apart (command_word words) (codes "solve") (codes "verify") is verify.named refl)
+  | inr (inr tour) ↦ absurd (apart (command_word words) (codes "solve") (codes "tour") is tour.named refl)
 ]
-  where
-    other : codes "solve" ≡ codes "verify" → ⊥
-    other e = cc
 
-pub verify_named : (words : List Text) → IsTaken words → (command_word words ≡ codes "solve" → ⊥) → command_word words ≡ codes "verify"
-verify_named words taken other = elim (taken_whole words taken) [
-  | inl solve ↦ absurd (other solve.named)
-  | inr verify ↦ verify.named
+whole_tour : (words : List Text) → IsTaken words → command_word words ≡ codes "tour" → IsWholeTour (rows_of_words words)
+whole_tour words taken is = elim (taken_whole words taken) [
+  | inl solve ↦ absurd (apart (command_word words) (codes "tour") (codes "solve") is solve.named refl)
+  | inr (inl verify) ↦ absurd (apart (command_word words) (codes "tour") (codes "verify") is verify.named refl)
+  | inr (inr tour) ↦ tour.whole
 ]
+
+pub verify_named : (words : List Text) → IsTaken words → (command_word words ≡ codes "solve" → ⊥) → (command_word words ≡ codes "tour" → ⊥) → command_word words ≡ codes "verify"
+verify_named words taken no_solve no_tour = elim (taken_whole words taken) [
+  | inl solve ↦ absurd (no_solve solve.named)
+  | inr (inl verify) ↦ verify.named
+  | inr (inr tour) ↦ absurd (no_tour tour.named)
+]
+
+-- the number of a word that a range took, found in the rows
+seed_says : (words : List Text) (rows : List Row) (seed : ℕ) → is_unsigned_in 0 most_seed (word_for (codes "seed") words) ≡ true → rows ≡ rows_of_words words
+    → seed ≡ seed_in (word_in (codes "seed") rows) → seed ≡ seed_of words
+seed_says words rows seed passes same found =
+    found ∙ ap (λ r. seed_in (word_in (codes "seed") r)) same ∙ number_taken 0 most_seed default_seed (word_for (codes "seed") words) passes
 
 -- a call that was found, where the words are taken
 pub says_solve : (words : List Text) (rows : List Row) (s : Solve) → IsTaken words → command_word words ≡ codes "solve" → rows ≡ rows_of_words words → IsSolveOf rows s → SaysSolve words s
 says_solve words rows s taken is same found =
-    let whole = whole_solve words taken is in
-    let budget : budget_in (word_for (codes "budget") words) ≡ number_of (word_for (codes "budget") words) =
-    ap (λ b. cond b (number_of (word_for (codes "budget") words)) most_budget) whole.budget in record {
+    let whole = whole_solve words taken is in record {
       named = is;
       instance = found.instance ∙ ap (word_in (codes "instance")) same;
       proof = found.proof ∙ ap (word_in (codes "proof")) same;
       restart = found.restart ∙ ap (word_in (codes "restart")) same;
-      budget = found.budget ∙ ap (λ r. budget_in (word_in (codes "budget") r)) same ∙ budget;
+      budget = found.budget ∙ ap (λ r. budget_in (word_in (codes "budget") r)) same ∙ number_taken 0 most_budget most_budget (word_for (codes "budget") words) whole.budget;
       few = found.few;
+      seed = seed_says words rows s.seed whole.seed same found.seed;
     }
 
-pub says_verify : (words : List Text) (rows : List Row) (v : VerifyWords) → IsTaken words → (command_word words ≡ codes "solve" → ⊥) → rows ≡ rows_of_words words → IsVerifyOf rows v → SaysVerify words v
-says_verify words rows v taken other same found = record {
-  named = verify_named words taken other;
+pub says_verify : (words : List Text) (rows : List Row) (v : VerifyWords) → IsTaken words → (command_word words ≡ codes "solve" → ⊥) → (command_word words ≡ codes "tour" → ⊥) → rows ≡ rows_of_words words
+    → IsVerifyOf rows v → SaysVerify words v
+says_verify words rows v taken no_solve no_tour same found = record {
+  named = verify_named words taken no_solve no_tour;
   instance = found.instance ∙ ap (word_in (codes "instance")) same;
   proof = found.proof ∙ ap (word_in (codes "proof")) same;
+}
+
+pub says_tour : (words : List Text) (rows : List Row) (t : TourWords) → IsTaken words → command_word words ≡ codes "tour" → rows ≡ rows_of_words words → IsTourOf rows t → SaysTour words t
+says_tour words rows t taken is same found = record {
+  named = is;
+  instance = found.instance ∙ ap (word_in (codes "instance")) same;
+  seed = seed_says words rows t.seed (whole_tour words taken is).seed same found.seed;
 }
 
 pub says_paths : (words : List Text) (rows : List Row) (v : VerifyWords) → rows ≡ matches_of verifier words → IsVerifyOf rows v → SaysPaths words v
@@ -347,7 +458,8 @@ command_there : (o : Option (Text × List Row)) → IsWholeCall o → is_some o 
 command_there (Some p) whole = refl
 command_there None whole = elim whole [
   | inl solve ↦ let e = solve.named in cc
-  | inr verify ↦ let e = verify.named in cc
+  | inr (inl verify) ↦ let e = verify.named in cc
+  | inr (inr tour) ↦ let e = tour.named in cc
 ]
 
 rows_there : {A : Type 0} (f : A → Text × List Row) (o : Option A) → is_some (option_map f o) ≡ is_some o

@@ -3,12 +3,21 @@ use Rattle.std.specs.Prelude.{◌≡◌, ◌≤◌, ℕ, List, codes, string_byt
 use Rattle.clap.specs.Walk.{Row, Text}
 use Rattle.clap.specs.ValueTests.{is_unsigned_in}
 use Rattle.tspwords.specs.declared.words.Solve.{Solve}
+use Rattle.tspwords.specs.declared.words.TourWords.{TourWords}
 use Rattle.tspwords.specs.declared.words.VerifyWords.{VerifyWords}
-use Rattle.tspwords.specs.Program.{most_budget, number_of, word_in}
+use Rattle.tspwords.specs.Program.{most_budget, most_seed, default_seed, number_of, word_in}
+
+-- the number that a word says, where it is one from `least` to `most`
+abbrev pub number_in : ℕ → ℕ → ℕ → Text → ℕ
+number_in least most default word = if is_unsigned_in least most word then number_of word else default
 
 -- the budget that a word says, where it is a number that a budget may be
 abbrev pub budget_in : Text → ℕ
-budget_in word = if is_unsigned_in 0 most_budget word then number_of word else most_budget
+budget_in word = number_in 0 most_budget most_budget word
+
+-- the seed that a word says, where it is a number that a seed may be
+abbrev pub seed_in : Text → ℕ
+seed_in word = number_in 0 most_seed default_seed word
 
 -- this call of `solve` is what was found for its arguments
 pub record IsSolveOf (rows : List Row) (s : Solve) : Type 0 where
@@ -17,6 +26,12 @@ pub record IsSolveOf (rows : List Row) (s : Solve) : Type 0 where
   pub restart : string_bytes s.restart ≡ word_in (codes "restart") rows
   pub budget : s.budget ≡ budget_in (word_in (codes "budget") rows)
   pub few : s.budget ≤ most_budget
+  pub seed : s.seed ≡ seed_in (word_in (codes "seed") rows)
+
+-- this call of `tour` is what was found for its arguments
+pub record IsTourOf (rows : List Row) (t : TourWords) : Type 0 where
+  pub instance : string_bytes t.instance ≡ word_in (codes "instance") rows
+  pub seed : t.seed ≡ seed_in (word_in (codes "seed") rows)
 
 -- these paths are what was found for the arguments of `verify`, or of the verifier
 pub record IsVerifyOf (rows : List Row) (v : VerifyWords) : Type 0 where

@@ -3,29 +3,40 @@ use Rattle.std.specs.Prelude.{◌≡◌, ◌≢◌, ℕ, ◌⊎◌, List, [], �
 use Rattle.clap.specs.Values.{IsUnsignedIn}
 use Rattle.clap.specs.Walk.{Text, first_of}
 use Rattle.clap.specs.Simple.{matches_of}
-use Rattle.tspwords.specs.Program.{IsTaken, IsSolveCall, IsVerifyCall, IsVerifierCall, most_budget, instance_word, proof_word, restart_word, budget_of, number_of, rows_of_words, verifier, verifier_word, word_for}
+use Rattle.tspwords.specs.Program.{IsTaken, IsSolveCall, IsVerifyCall, IsTourCall, IsVerifierCall, most_budget, most_seed, default_seed, instance_word, proof_word, restart_word, budget_of, seed_of, number_of, rows_of_words, verifier, verifier_word, word_for}
 
 -- a word that does not begin with a hyphen
 abbrev pub IsPlain : Text → Type 0
 IsPlain word = slice_index word 0 ≢ 45
 
--- the words are a call of `solve`, with these paths and this budget
-pub record AreTaken (words : List Text) (instance proof restart : Text) (budget : ℕ) : Type 0 where
+-- the words are a call of `solve`, with these paths, this budget and this seed
+pub record AreTaken (words : List Text) (instance proof restart : Text) (budget seed : ℕ) : Type 0 where
   pub call : IsSolveCall words
   pub instance_is : instance_word words ≡ instance
   pub proof_is : proof_word words ≡ proof
   pub restart_is : restart_word words ≡ restart
   pub budget_is : budget_of words ≡ budget
+  pub seed_is : seed_of words ≡ seed
 
--- `solve` with three paths has the greatest budget
+-- `solve` with three paths has the greatest budget and the seed 1
 abbrev pub PathsAreTaken : Type 0
 PathsAreTaken = (name a b c : Text) → IsPlain a → IsPlain b → IsPlain c
-    → AreTaken (name ∷ codes "solve" ∷ a ∷ b ∷ c ∷ []) a b c most_budget
+    → AreTaken (name ∷ codes "solve" ∷ a ∷ b ∷ c ∷ []) a b c most_budget default_seed
 
 -- `solve` with three paths and `--budget N`
 abbrev pub BudgetsAreTaken : Type 0
 BudgetsAreTaken = (name a b c d : Text) → IsPlain a → IsPlain b → IsPlain c → IsUnsignedIn 0 most_budget d
-    → AreTaken (name ∷ codes "solve" ∷ a ∷ b ∷ c ∷ codes "--budget" ∷ d ∷ []) a b c (number_of d)
+    → AreTaken (name ∷ codes "solve" ∷ a ∷ b ∷ c ∷ codes "--budget" ∷ d ∷ []) a b c (number_of d) default_seed
+
+-- `solve` with three paths and `--seed S`
+abbrev pub SeedsAreTaken : Type 0
+SeedsAreTaken = (name a b c d : Text) → IsPlain a → IsPlain b → IsPlain c → IsUnsignedIn 0 most_seed d
+    → AreTaken (name ∷ codes "solve" ∷ a ∷ b ∷ c ∷ codes "--seed" ∷ d ∷ []) a b c most_budget (number_of d)
+
+-- `solve` with three paths, `--budget N` and `--seed S`
+abbrev pub BudgetsAndSeedsAreTaken : Type 0
+BudgetsAndSeedsAreTaken = (name a b c d e : Text) → IsPlain a → IsPlain b → IsPlain c → IsUnsignedIn 0 most_budget d → IsUnsignedIn 0 most_seed e
+    → AreTaken (name ∷ codes "solve" ∷ a ∷ b ∷ c ∷ codes "--budget" ∷ d ∷ codes "--seed" ∷ e ∷ []) a b c (number_of d) (number_of e)
 
 -- the words are a call of `verify`, with these paths
 pub record AreVerifyTaken (words : List Text) (instance proof : Text) : Type 0 where
@@ -37,6 +48,21 @@ pub record AreVerifyTaken (words : List Text) (instance proof : Text) : Type 0 w
 abbrev pub VerifyIsTaken : Type 0
 VerifyIsTaken = (name a b : Text) → IsPlain a → IsPlain b → AreVerifyTaken (name ∷ codes "verify" ∷ a ∷ b ∷ []) a b
 
+-- the words are a call of `tour`, with this path and this seed
+pub record AreTourTaken (words : List Text) (instance : Text) (seed : ℕ) : Type 0 where
+  pub call : IsTourCall words
+  pub instance_is : instance_word words ≡ instance
+  pub seed_is : seed_of words ≡ seed
+
+-- `tour` with a path has the seed 1
+abbrev pub TourIsTaken : Type 0
+TourIsTaken = (name a : Text) → IsPlain a → AreTourTaken (name ∷ codes "tour" ∷ a ∷ []) a default_seed
+
+-- `tour` with a path and `--seed S`
+abbrev pub TourSeedsAreTaken : Type 0
+TourSeedsAreTaken = (name a d : Text) → IsPlain a → IsUnsignedIn 0 most_seed d
+    → AreTourTaken (name ∷ codes "tour" ∷ a ∷ codes "--seed" ∷ d ∷ []) a (number_of d)
+
 -- the words are of the verifier's form, with these paths
 pub record AreVerifierTaken (words : List Text) (instance proof : Text) : Type 0 where
   pub call : IsVerifierCall words
@@ -47,13 +73,14 @@ pub record AreVerifierTaken (words : List Text) (instance proof : Text) : Type 0
 abbrev pub VerifierIsTaken : Type 0
 VerifierIsTaken = (name a b : Text) → IsPlain a → IsPlain b → AreVerifierTaken (name ∷ a ∷ b ∷ []) a b
 
--- a call of `solve` gives each path, and a budget within its range or none, for which its default stands
+-- a call of `solve` gives each path, and a budget and a seed within their ranges, or none, for which the default stands
 pub record AreGiven (words : List Text) : Type 0 where
   pub named : IsSolveCall words
   pub instance : first_of (codes "instance") (rows_of_words words) ≡ Some (instance_word words)
   pub proof : first_of (codes "proof") (rows_of_words words) ≡ Some (proof_word words)
   pub restart : first_of (codes "restart") (rows_of_words words) ≡ Some (restart_word words)
   pub budget : IsUnsignedIn 0 most_budget (word_for (codes "budget") words)
+  pub seed : IsUnsignedIn 0 most_seed (word_for (codes "seed") words)
 
 -- a call of `verify` gives both paths
 pub record AreVerifyGiven (words : List Text) : Type 0 where
@@ -61,9 +88,15 @@ pub record AreVerifyGiven (words : List Text) : Type 0 where
   pub instance : first_of (codes "instance") (rows_of_words words) ≡ Some (instance_word words)
   pub proof : first_of (codes "proof") (rows_of_words words) ≡ Some (proof_word words)
 
+-- a call of `tour` gives its path, and a seed within its range, or none, for which the default stands
+pub record AreTourGiven (words : List Text) : Type 0 where
+  pub named : IsTourCall words
+  pub instance : first_of (codes "instance") (rows_of_words words) ≡ Some (instance_word words)
+  pub seed : IsUnsignedIn 0 most_seed (word_for (codes "seed") words)
+
 -- words that are taken are a call of a command
 abbrev pub TakenWordsAreGiven : Type 0
-TakenWordsAreGiven = (words : List Text) → IsTaken words → AreGiven words ⊎ AreVerifyGiven words
+TakenWordsAreGiven = (words : List Text) → IsTaken words → AreGiven words ⊎ (AreVerifyGiven words ⊎ AreTourGiven words)
 
 -- words of the verifier's form give both paths
 pub record AreVerifierGiven (words : List Text) : Type 0 where

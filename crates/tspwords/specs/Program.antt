@@ -16,18 +16,34 @@ path_rule id = record (new_rule id) { required = true }
 abbrev pub most_budget : ℕ
 most_budget = 65536
 
--- `--budget N`, N from 0 to 65536
-abbrev pub budget_rule : Rule
-budget_rule = record (new_rule (codes "budget")) {
-  long = Some (codes "budget");
-  parser = Some (parser.Unsigned 0 most_budget);
-  defaults = codes "65536" ∷ [];
+-- the greatest seed, 2 ^ 64 - 1
+abbrev pub most_seed : ℕ
+most_seed = 18446744073709551615
+
+-- the seed that holds where none is given
+abbrev pub default_seed : ℕ
+default_seed = 1
+
+-- `--id NUMBER`, the number from `least` to `most`
+abbrev pub number_rule : Text → ℕ → ℕ → Text → Rule
+number_rule id least most default = record (new_rule id) {
+  long = Some id;
+  parser = Some (parser.Unsigned least most);
+  defaults = default ∷ [];
 }
 
--- `solve INSTANCE PROOF RESTART [--budget N]`
+-- `--budget N`, N from 0 to 65536
+abbrev pub budget_rule : Rule
+budget_rule = number_rule (codes "budget") 0 most_budget (codes "65536")
+
+-- `--seed S`, S from 0 to 2 ^ 64 - 1
+abbrev pub seed_rule : Rule
+seed_rule = number_rule (codes "seed") 0 most_seed (codes "1")
+
+-- `solve INSTANCE PROOF RESTART [--budget N] [--seed S]`
 abbrev pub solve_shape : Shape
 solve_shape = record (new_shape (codes "solve")) {
-  rules = path_rule (codes "instance") ∷ path_rule (codes "proof") ∷ path_rule (codes "restart") ∷ budget_rule ∷ [];
+  rules = path_rule (codes "instance") ∷ path_rule (codes "proof") ∷ path_rule (codes "restart") ∷ budget_rule ∷ seed_rule ∷ [];
 }
 
 -- `verify INSTANCE PROOF`
@@ -36,12 +52,20 @@ verify_shape = record (new_shape (codes "verify")) {
   rules = path_rule (codes "instance") ∷ path_rule (codes "proof") ∷ [];
 }
 
--- the program: one of its commands has to be named
-abbrev pub program : App
-program = with_subcommand (with_subcommand (record {
+-- `tour INSTANCE [--seed S]`
+abbrev pub tour_shape : Shape
+tour_shape = record (new_shape (codes "tour")) { rules = path_rule (codes "instance") ∷ seed_rule ∷ [] }
+
+-- the program with the commands that have to do with proofs
+abbrev pub proving : App
+proving = with_subcommand (with_subcommand (record {
   top = record (new_shape (codes "tspc")) { subcommand_required = true; disable_help_subcommand = true };
   subs = [];
 }) solve_shape) verify_shape
+
+-- the program: one of its commands has to be named
+abbrev pub program : App
+program = with_subcommand proving tour_shape
 
 -- the words are of a command's form: the parser finds no fault with them, of which a call for help is one
 abbrev pub IsTaken : List Text → Type 0
@@ -61,6 +85,9 @@ IsSolveCall words = IsCallOf (codes "solve") words
 
 abbrev pub IsVerifyCall : List Text → Type 0
 IsVerifyCall words = IsCallOf (codes "verify") words
+
+abbrev pub IsTourCall : List Text → Type 0
+IsTourCall words = IsCallOf (codes "tour") words
 
 -- what the words say of the arguments of the command that they name
 abbrev pub rows_of_words : List Text → List Row
@@ -88,6 +115,9 @@ number_of word = digits_value 10 (without_leading_plus word)
 
 abbrev pub budget_of : List Text → ℕ
 budget_of words = number_of (word_for (codes "budget") words)
+
+abbrev pub seed_of : List Text → ℕ
+seed_of words = number_of (word_for (codes "seed") words)
 
 -- ---- the verifier, a program of its own
 

@@ -2,10 +2,11 @@
 use Rattle.std.specs.Prelude.{◌≡◌, ◌≤◌, List, codes, string_bytes}
 use Rattle.clap.specs.Walk.{Text}
 use Rattle.tspwords.specs.declared.words.Solve.{Solve}
+use Rattle.tspwords.specs.declared.words.TourWords.{TourWords}
 use Rattle.tspwords.specs.declared.words.VerifyWords.{VerifyWords}
 use Rattle.tspwords.specs.declared.words.Command.{Command}
 use Rattle.tspwords.specs.declared.words.Command.TheVariants as command
-use Rattle.tspwords.specs.Program.{most_budget, command_word, instance_word, proof_word, restart_word, budget_of, verifier_word}
+use Rattle.tspwords.specs.Program.{most_budget, command_word, instance_word, proof_word, restart_word, budget_of, seed_of, verifier_word}
 
 -- the words say this call of `solve`
 pub record SaysSolve (words : List Text) (s : Solve) : Type 0 where
@@ -15,12 +16,19 @@ pub record SaysSolve (words : List Text) (s : Solve) : Type 0 where
   pub restart : string_bytes s.restart ≡ restart_word words
   pub budget : s.budget ≡ budget_of words
   pub few : s.budget ≤ most_budget
+  pub seed : s.seed ≡ seed_of words
 
 -- the words say this call of `verify`
 pub record SaysVerify (words : List Text) (v : VerifyWords) : Type 0 where
   pub named : command_word words ≡ codes "verify"
   pub instance : string_bytes v.instance ≡ instance_word words
   pub proof : string_bytes v.proof ≡ proof_word words
+
+-- the words say this call of `tour`
+pub record SaysTour (words : List Text) (t : TourWords) : Type 0 where
+  pub named : command_word words ≡ codes "tour"
+  pub instance : string_bytes t.instance ≡ instance_word words
+  pub seed : t.seed ≡ seed_of words
 
 -- the words of the verifier say these paths
 pub record SaysPaths (words : List Text) (v : VerifyWords) : Type 0 where
@@ -31,3 +39,4 @@ pub record SaysPaths (words : List Text) (v : VerifyWords) : Type 0 where
 abbrev pub Says : List Text → Command → Type 0
 Says words (command.Solve s) = SaysSolve words s
 Says words (command.Verify v) = SaysVerify words v
+Says words (command.Tour t) = SaysTour words t

@@ -1,16 +1,22 @@
 //! What the words of a command say.
-ghost use Rattle.tspwords.specs.Laws.{PathsAreTaken, BudgetsAreTaken, VerifyIsTaken, VerifierIsTaken, TakenWordsAreGiven, VerifierWordsAreGiven};
+ghost use Rattle.tspwords.specs.Laws.{PathsAreTaken, BudgetsAreTaken, SeedsAreTaken, BudgetsAndSeedsAreTaken, VerifyIsTaken, TourIsTaken, TourSeedsAreTaken, VerifierIsTaken, TakenWordsAreGiven, VerifierWordsAreGiven};
 
-/// The words of `solve` with three paths that do not begin with a hyphen are taken, with and without a budget, and say
-/// these paths and that budget, or 65,536; so are the words of `verify` and of the verifier with two such paths.
+/// The words of `solve` with three paths that do not begin with a hyphen are taken, with and without a budget and a seed,
+/// and say these paths and these numbers, or 65,536 and 1; so are the words of `verify` and of the verifier with two such
+/// paths, and those of `tour` with one, with and without a seed.
 pub fn plain_words_are_taken()
     ensures paths { PathsAreTaken }
     ensures budgets { BudgetsAreTaken }
+    ensures seeds { SeedsAreTaken }
+    ensures both { BudgetsAndSeedsAreTaken }
     ensures verify { VerifyIsTaken }
+    ensures tour { TourIsTaken }
+    ensures tour_seeds { TourSeedsAreTaken }
     ensures verifier { VerifierIsTaken }
 {}
 
-/// Words that are taken give each path of their command, and for `solve` a budget from 0 to 65,536.
+/// Words that are taken give each path of their command, for `solve` a budget from 0 to 65,536, and for `solve` and `tour`
+/// a seed from 0 to 2^64 - 1.
 pub fn taken_words_are_given()
     ensures commands { TakenWordsAreGiven }
     ensures verifier { VerifierWordsAreGiven }

@@ -4,7 +4,7 @@ ghost use Rattle.std.specs.Prelude.{◌≡◌, codes, false, [], IfOk};
 ghost use Rattle.clap.specs.Walk.{rule_of};
 ghost use Rattle.clap.specs.Simple.{app_of, new_app, with_rule, on_top};
 ghost use Rattle.clap.specs.declared.builder.command.Command.TheViews.{out-Command};
-ghost use Rattle.tspwords.specs.Program.{path_rule, budget_rule, solve_shape, verify_shape, program, verifier};
+ghost use Rattle.tspwords.specs.Program.{path_rule, number_rule, budget_rule, seed_rule, solve_shape, verify_shape, tour_shape, proving, program, verifier};
 
 use clap::builder::ValueParser;
 use clap::{Arg, Command};
@@ -18,15 +18,31 @@ fn path<'a>(alloc: Global, id: &'a str) -> Arg<'a>
     Arg::new(alloc, id).required(true)
 }
 
+// An option of this name that takes a number from `least` to `most`.
+fn number<'a>(alloc: Global, id: &'a str, least: u64, most: u64, default: &'a str) -> Arg<'a>
+    ensures rule { rule_of result ≡ number_rule id.now least most default.now }
+    ensures local { result.global ≡ false }
+{
+    Arg::new(alloc, id)
+        .long(id)
+        .value_parser(ValueParser::Unsigned(least, most))
+        .default_value(default)
+}
+
 // `--budget N`
 fn budget<'a>(alloc: Global) -> Arg<'a>
     ensures rule { rule_of result ≡ budget_rule }
     ensures local { result.global ≡ false }
 {
-    Arg::new(alloc, "budget")
-        .long("budget")
-        .value_parser(ValueParser::Unsigned(0, 65536))
-        .default_value("65536")
+    number(alloc, "budget", 0, 65536, "65536")
+}
+
+// `--seed S`
+fn seed<'a>(alloc: Global) -> Arg<'a>
+    ensures rule { rule_of result ≡ seed_rule }
+    ensures local { result.global ≡ false }
+{
+    number(alloc, "seed", 0, u64::MAX, "1")
 }
 
 // `solve INSTANCE PROOF`, the front of `solve`.
@@ -39,14 +55,30 @@ fn solve_front<'a>(alloc: Global) -> Result<Command<'a>, AllocError>
         .arg(path(alloc, "proof"))
 }
 
-// `solve INSTANCE PROOF RESTART [--budget N]`
+// `solve INSTANCE PROOF RESTART`
+fn solve_paths<'a>(alloc: Global) -> Result<Command<'a>, AllocError>
+    ensures app { IfOk result (λ c. app_of c ≡ with_rule (with_rule (with_rule (new_app (codes "solve")) (path_rule (codes "instance"))) (path_rule (codes "proof"))) (path_rule (codes "restart"))) }
+    ensures local { IfOk result (λ c. (out-Command c).has_globals ≡ false) }
+{
+    solve_front(alloc)?.arg(path(alloc, "restart"))
+}
+
+// `solve INSTANCE PROOF RESTART [--budget N] [--seed S]`
 fn solve<'a>(alloc: Global) -> Result<Command<'a>, AllocError>
     ensures app { IfOk result (λ c. app_of c ≡ record { top = solve_shape; subs = [] }) }
     ensures local { IfOk result (λ c. (out-Command c).has_globals ≡ false) }
 {
-    solve_front(alloc)?
-        .arg(path(alloc, "restart"))?
-        .arg(budget(alloc))
+    solve_paths(alloc)?.arg(budget(alloc))?.arg(seed(alloc))
+}
+
+// `tour INSTANCE [--seed S]`
+fn tour<'a>(alloc: Global) -> Result<Command<'a>, AllocError>
+    ensures app { IfOk result (λ c. app_of c ≡ record { top = tour_shape; subs = [] }) }
+    ensures local { IfOk result (λ c. (out-Command c).has_globals ≡ false) }
+{
+    Command::new(alloc, "tour")
+        .arg(path(alloc, "instance"))?
+        .arg(seed(alloc))
 }
 
 // `verify INSTANCE PROOF`
@@ -59,15 +91,23 @@ fn verify<'a>(alloc: Global) -> Result<Command<'a>, AllocError>
         .arg(path(alloc, "proof"))
 }
 
-/// The program and its commands.
-pub(crate) fn program<'a>(alloc: Global) -> Result<Command<'a>, AllocError>
-    ensures app { IfOk result (λ c. app_of c ≡ program) }
+// The program and the commands that have to do with proofs.
+fn proving<'a>(alloc: Global) -> Result<Command<'a>, AllocError>
+    ensures app { IfOk result (λ c. app_of c ≡ proving) }
     ensures local { IfOk result (λ c. (out-Command c).has_globals ≡ false) }
 {
     let top = Command::new(alloc, "tspc")
         .subcommand_required(true)
         .disable_help_subcommand(true);
     top.subcommand(solve(alloc)?)?.subcommand(verify(alloc)?)
+}
+
+/// The program and its commands.
+pub(crate) fn program<'a>(alloc: Global) -> Result<Command<'a>, AllocError>
+    ensures app { IfOk result (λ c. app_of c ≡ program) }
+    ensures local { IfOk result (λ c. (out-Command c).has_globals ≡ false) }
+{
+    proving(alloc)?.subcommand(tour(alloc)?)
 }
 
 /// The verifier.

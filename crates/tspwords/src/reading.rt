@@ -6,17 +6,20 @@ ghost use Rattle.clap.specs.Simple.{app_of, matches_of, subcommand_of, subcomman
 ghost use Rattle.clap.specs.Faults.{fault_of, is_simple_and_free};
 ghost use Rattle.clap.specs.declared.builder.command.Command.TheViews.{out-Command};
 ghost use Rattle.tspwords.specs.Program.{program, verifier, IsTaken, IsVerifierCall, word_in};
-ghost use Rattle.tspwords.specs.Found.{IsSolveOf, IsVerifyOf, budget_in};
+ghost use Rattle.tspwords.specs.Found.{IsSolveOf, IsVerifyOf, IsTourOf, number_in, budget_in, seed_in};
 ghost use Rattle.tspwords.specs.Says.{Says, SaysPaths};
 
 use crate::program::{program, verifier};
-use crate::words::{Command, Solve, VerifyWords, WordsError};
+use crate::words::{Command, Solve, TourWords, VerifyWords, WordsError};
 use clap::ArgMatches;
 use clap::error::ErrorKind;
 use std::alloc::{AllocError, Global};
 
 /// The greatest budget, and the one where none is given.
-const MOST_BUDGET: u32 = 65536;
+const MOST_BUDGET: u64 = 65536;
+
+/// The seed where none is given.
+const DEFAULT_SEED: u64 = 1;
 
 /// Reads the words of the solver's command line, of which the first is the program's name.
 ///
@@ -29,6 +32,7 @@ pub fn read_command(alloc: Global, words: &[String]) -> Result<Command, WordsErr
     let matches = matches(alloc, words)?;
     match matches.subcommand() {
         Some(("solve", found)) => Ok(Command::Solve(solve(alloc, found)?)),
+        Some(("tour", found)) => Ok(Command::Tour(tour(alloc, found)?)),
         Some((_, found)) => Ok(Command::Verify(verify(alloc, found)?)),
         None => Err(WordsError::Usage),
     }
@@ -89,7 +93,18 @@ fn solve(alloc: Global, found: &ArgMatches) -> Result<Solve, AllocError>
         instance: path(alloc, found, "instance")?,
         proof: path(alloc, found, "proof")?,
         restart: path(alloc, found, "restart")?,
-        budget: budget_in(word(found, "budget")),
+        budget: budget(found),
+        seed: seed(found),
+    })
+}
+
+// The call of `tour` that was found.
+fn tour(alloc: Global, found: &ArgMatches) -> Result<TourWords, AllocError>
+    ensures { IfOk result (IsTourOf (rows_of (found_of found.now))) }
+{
+    Ok(TourWords {
+        instance: path(alloc, found, "instance")?,
+        seed: seed(found),
     })
 }
 
@@ -117,11 +132,34 @@ fn word<'a>(found: &ArgMatches<'a>, id: &str) -> &'a str
     found.get_str(id).unwrap_or("")
 }
 
-// The budget that a word says.
-fn budget_in(word: &str) -> u32
-    ensures value { result ≡ budget_in word.now }
+// The budget that was found.
+fn budget(found: &ArgMatches) -> u32
+    ensures value { result ≡ budget_in (word_in (codes "budget") (rows_of (found_of found.now))) }
     ensures few { result ≤ 65536 }
 {
-    let number = word.parse::<u32>().unwrap_or(MOST_BUDGET);
-    number.min(MOST_BUDGET)
+    let budget = number_in(word(found, "budget"), 0, MOST_BUDGET, MOST_BUDGET);
+    budget as u32
+}
+
+// The seed that was found.
+fn seed(found: &ArgMatches) -> u64
+    ensures { result ≡ seed_in (word_in (codes "seed") (rows_of (found_of found.now))) }
+{
+    number_in(word(found, "seed"), 0, u64::MAX, DEFAULT_SEED)
+}
+
+// The number that a word says where it is from `least` to `most`, else `default`.
+fn number_in(word: &str, least: u64, most: u64, default: u64) -> u64
+    requires least { least ≤ default }
+    requires most { default ≤ most }
+    ensures value { result ≡ number_in least most default word.now }
+    ensures least { least ≤ result }
+    ensures most { result ≤ most }
+{
+    let number = word.parse::<u64>().unwrap_or(default);
+    if least <= number && number <= most {
+        number
+    } else {
+        default
+    }
 }

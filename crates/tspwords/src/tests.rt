@@ -19,15 +19,17 @@ fn read(alloc: Global, line: &str) -> Result<Command, WordsError> {
 
 #[test]
 fn words_that_are_taken(rt: HostRuntime) -> Result<(), Fail> {
-    for (line, proof, budget) in [
-        ("tspc solve a b c", "b", 65536),
-        ("tspc solve a b c --budget 200", "b", 200),
-        ("tspc solve --budget=0 a b c", "b", 0),
-        ("tspc solve a --budget 65536 b c", "b", 65536),
-        ("tspc solve a b c --budget +5", "b", 5),
-        ("tspc solve a b c --budget 007", "b", 7),
-        ("tspc solve -- a -b c", "-b", 65536),
-        ("tspc solve a solve c", "solve", 65536),
+    for (line, proof, budget, seed) in [
+        ("tspc solve a b c", "b", 65536, 1),
+        ("tspc solve a b c --budget 200", "b", 200, 1),
+        ("tspc solve --budget=0 a b c", "b", 0, 1),
+        ("tspc solve a --budget 65536 b c", "b", 65536, 1),
+        ("tspc solve a b c --budget +5", "b", 5, 1),
+        ("tspc solve a b c --budget 007", "b", 7, 1),
+        ("tspc solve -- a -b c", "-b", 65536, 1),
+        ("tspc solve a solve c", "solve", 65536, 1),
+        ("tspc solve a b c --seed 7 --budget 3", "b", 3, 7),
+        ("tspc solve --budget 3 a b c --seed=0", "b", 3, 0),
     ] {
         match read(rt.alloc(), line)? {
             Command::Solve(solve) => {
@@ -35,8 +37,34 @@ fn words_that_are_taken(rt: HostRuntime) -> Result<(), Fail> {
                 assert_eq!(rt; solve.proof.as_str(), proof, "{line}");
                 assert_eq!(rt; solve.restart.as_str(), "c", "{line}");
                 assert_eq!(rt; solve.budget, budget, "{line}");
+                assert_eq!(rt; solve.seed, seed, "{line}");
             }
-            Command::Verify(_) => panic!(rt; "{line}"),
+            _ => panic!(rt; "{line}"),
+        }
+    }
+    Ok(())
+}
+
+#[test]
+fn words_of_tour_that_are_taken(rt: HostRuntime) -> Result<(), Fail> {
+    for (line, instance, seed) in [
+        ("tspc tour a", "a", 1),
+        ("tspc tour a --seed 0", "a", 0),
+        ("tspc tour --seed=+5 a", "a", 5),
+        ("tspc tour tour --seed 007", "tour", 7),
+        (
+            "tspc tour a --seed 18446744073709551615",
+            "a",
+            18446744073709551615,
+        ),
+        ("tspc tour -- --seed", "--seed", 1),
+    ] {
+        match read(rt.alloc(), line)? {
+            Command::Tour(tour) => {
+                assert_eq!(rt; tour.instance.as_str(), instance, "{line}");
+                assert_eq!(rt; tour.seed, seed, "{line}");
+            }
+            _ => panic!(rt; "{line}"),
         }
     }
     Ok(())
@@ -61,7 +89,7 @@ fn words_of_verify_that_are_taken(rt: HostRuntime) -> Result<(), Fail> {
                 assert_eq!(rt; verify.instance.as_str(), instance, "{line}");
                 assert_eq!(rt; verify.proof.as_str(), proof, "{line}");
             }
-            Command::Solve(_) => panic!(rt; "{line}"),
+            _ => panic!(rt; "{line}"),
         }
         let words = words_of(rt.alloc(), own)?;
         let verify = read_verify_words(rt.alloc(), &words)?;
@@ -118,6 +146,15 @@ fn words_that_are_not_taken(rt: HostRuntime) -> Result<(), Fail> {
         "tspc verify a b --budget 1",
         "tspc verify --help",
         "tspc verif a b",
+        "tspc solve a b c --seed",
+        "tspc solve a b c --seed 18446744073709551616",
+        "tspc tour",
+        "tspc tour a b",
+        "tspc tour a --seed -1",
+        "tspc tour a --seed 18446744073709551616",
+        "tspc tour a --seed 1 --seed 2",
+        "tspc tour a --budget 1",
+        "tspc tour a --help",
     ] {
         assert_eq!(rt;
             read(rt.alloc(), line).err(),

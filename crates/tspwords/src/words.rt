@@ -5,14 +5,15 @@ use std::alloc::AllocError;
 use std::error::Error;
 use std::fmt;
 
-/// A call of `solve`: the paths of the instance, of the proof and of the restart slots, and the greatest number of nodes to
-/// settle, from 0 to 65,536.
+/// A call of `solve`: the paths of the instance, of the proof and of the restart slots, the greatest number of nodes to
+/// settle, from 0 to 65,536, and the seed of the random choices.
 #[derive(Debug, Drop)]
 pub struct Solve {
     pub instance: String,
     pub proof: String,
     pub restart: String,
     pub budget: u32,
+    pub seed: u64,
 }
 
 /// A call of `verify`, or of the verifier: the paths of the instance and of the proof.
@@ -22,13 +23,22 @@ pub struct VerifyWords {
     pub proof: String,
 }
 
+/// A call of `tour`: the path of the instance and the seed of the random choices.
+#[derive(Debug, Drop)]
+pub struct TourWords {
+    pub instance: String,
+    pub seed: u64,
+}
+
 /// A command of the solver.
 #[derive(Debug, Drop)]
 pub enum Command {
-    /// `solve INSTANCE PROOF RESTART [--budget N]`
+    /// `solve INSTANCE PROOF RESTART [--budget N] [--seed S]`
     Solve(Solve),
     /// `verify INSTANCE PROOF`
     Verify(VerifyWords),
+    /// `tour INSTANCE [--seed S]`
+    Tour(TourWords),
 }
 
 /// Why words were not read.
