@@ -13,7 +13,7 @@ use Rattle.verification.specs.Transfers.{ReadsInstance, RefusesInstance}
 use Rattle.tspengine.specs.Transfers.{TakesFronts, PublishesFronts}
 use Rattle.tspengine.specs.Readings.{IsRefuseStatus}
 use Rattle.tspengine.specs.Finishes.{Finishes, TearsOptimal, TearsStopped}
-use Rattle.tspengine.specs.Runs.{KeepsDesk, EndsDesk}
+use Rattle.tspengine.specs.Runs.{SolveSays, KeepsDesk, EndsDesk}
 use Rattle.tspengine.specs.declared.statuses.Status.{Status}
 use Rattle.tspengine.specs.declared.statuses.Status.TheVariants as status
 use Rattle.verification.proofs.Tells.{both_to, both_then}
@@ -26,12 +26,12 @@ read_keeps : (names : Names) (t : Told) → KeepsDesk names t (read_told names.i
 read_keeps names t = record { instance_path = inr refl; proof_path = inl refl; inlet_path = refl; inlet = refl; read = length t.instance; instance = sym (drop-length t.instance) }
 
 -- a fault of the slots, or want of memory, after the instance was read
-pub read_silent : (names : Names) (slots : Option SlotsTold) (i : Instance) (s : Status) → (s ≡ status.StoreFault) ⊎ (s ≡ status.NoMemory) → (a b : Option Told)
-    → BothTell (ReadsInstance names.instance i) a b → BothTell (EndsDesk names slots s) a b
-read_silent names slots i s which a b r = both_to (ReadsInstance names.instance i) (EndsDesk names slots s)
-    (λ t u is. subst (EndsDesk names slots s t) (sym is.others) (⊎_elim
-    (λ e. subst (λ (x : Status). EndsDesk names slots x t (read_told names.instance t)) (sym e) (record { ended = record { proof = refl; printed = refl }; keeps = read_keeps names t }))
-    (λ e. subst (λ (x : Status). EndsDesk names slots x t (read_told names.instance t)) (sym e) (record { ended = record { proof = refl; printed = refl }; keeps = read_keeps names t }))
+pub read_silent : (Says : Status → Type 0) (names : Names) (slots : Option SlotsTold) (i : Instance) (s : Status) → (s ≡ status.StoreFault) ⊎ (s ≡ status.NoMemory) → (a b : Option Told)
+    → BothTell (ReadsInstance names.instance i) a b → BothTell (EndsDesk Says names slots s) a b
+read_silent Says names slots i s which a b r = both_to (ReadsInstance names.instance i) (EndsDesk Says names slots s)
+    (λ t u is. subst (EndsDesk Says names slots s t) (sym is.others) (⊎_elim
+    (λ e. subst (λ (x : Status). EndsDesk Says names slots x t (read_told names.instance t)) (sym e) (record { ended = record { proof = refl; printed = refl }; keeps = read_keeps names t }))
+    (λ e. subst (λ (x : Status). EndsDesk Says names slots x t (read_told names.instance t)) (sym e) (record { ended = record { proof = refl; printed = refl }; keeps = read_keeps names t }))
     which))
     a b r
 
@@ -47,9 +47,9 @@ front_keeps names count t printed = record { instance_path = inr refl; proof_pat
 nothing : (xs : List ℕ) → xs ≡ xs ++ []
 nothing xs = sym (append-nil xs)
 
-refused_at : (names : Names) (slots : Option SlotsTold) (r : Refusal) (t u : Told) (is : RefusesInstance names.instance r t u)
-    → EndsDesk names slots status.BadInstance t (with_added outlet.Text (instance_text r) (front_told names.instance is.count t))
-refused_at names slots r t u is = record {
+refused_at : (Says : Status → Type 0) (names : Names) (slots : Option SlotsTold) (r : Refusal) (t u : Told) (is : RefusesInstance names.instance r t u)
+    → EndsDesk Says names slots status.BadInstance t (with_added outlet.Text (instance_text r) (front_told names.instance is.count t))
+refused_at Says names slots r t u is = record {
   ended = record {
     proof = [];
     printed = instance_text r;
@@ -60,11 +60,12 @@ refused_at names slots r t u is = record {
   keeps = front_keeps names is.count t (instance_text r);
 }
 
-torn_at : (names : Names) (slots : Option SlotsTold) (r : Refusal) (k : ℕ) (t u : Told) (is : RefusesInstance names.instance r t u)
-    → EndsDesk names slots status.WriteFault t (with_added outlet.Text (take k (instance_text r)) (front_told names.instance is.count t))
-torn_at names slots r k t u is = record {
+torn_at : (Says : Status → Type 0) → Says status.BadInstance → (names : Names) (slots : Option SlotsTold) (r : Refusal) (k : ℕ) (t u : Told) (is : RefusesInstance names.instance r t u)
+    → EndsDesk Says names slots status.WriteFault t (with_added outlet.Text (take k (instance_text r)) (front_told names.instance is.count t))
+torn_at Says bad names slots r k t u is = record {
   ended = record {
     wanted = status.BadInstance;
+    says = bad;
     proof = [];
     printed = instance_text r;
     answer = record { refusal = r; refused = is.refused; prints = refl; no_proof = refl };
@@ -73,31 +74,31 @@ torn_at names slots r k t u is = record {
   keeps = front_keeps names is.count t (take k (instance_text r));
 }
 
-silent_at : (names : Names) (slots : Option SlotsTold) (r : Refusal) (t u : Told) (is : RefusesInstance names.instance r t u)
-    → EndsDesk names slots status.NoMemory t (front_told names.instance is.count t)
-silent_at names slots r t u is = record {
+silent_at : (Says : Status → Type 0) (names : Names) (slots : Option SlotsTold) (r : Refusal) (t u : Told) (is : RefusesInstance names.instance r t u)
+    → EndsDesk Says names slots status.NoMemory t (front_told names.instance is.count t)
+silent_at Says names slots r t u is = record {
   ended = record { proof = refl; printed = refl };
   keeps = record { instance_path = inr refl; proof_path = inl refl; inlet_path = refl; inlet = refl; read = is.count; instance = refl };
 }
 
-pub refused_ends : (names : Names) (slots : Option SlotsTold) (r : Refusal) (s : Status) (a b c : Option Told) → BothTell (RefusesInstance names.instance r) a b
+pub refused_ends : (Says : Status → Type 0) → Says status.BadInstance → (names : Names) (slots : Option SlotsTold) (r : Refusal) (s : Status) (a b c : Option Told) → BothTell (RefusesInstance names.instance r) a b
     → IsRefuseStatus s → (s ≡ status.BadInstance → BothTell (Adds outlet.Text (instance_text r)) b c)
     → (s ≡ status.WriteFault → (k : ℕ) × BothTell (Adds outlet.Text (take k (instance_text r))) b c) → (s ≡ status.NoMemory → c ≡ b)
-    → BothTell (EndsDesk names slots s) a c
-refused_ends names slots r s a b c refuses which whole torn same = ⊎_elim
-    (λ e. subst (λ (x : Status). BothTell (EndsDesk names slots x) a c) (sym e)
-    (both_then (RefusesInstance names.instance r) (Adds outlet.Text (instance_text r)) (EndsDesk names slots status.BadInstance)
-    (λ t u v is f. subst (EndsDesk names slots status.BadInstance t) (sym (f ∙ ap (with_added outlet.Text (instance_text r)) is.others)) (refused_at names slots r t u is))
+    → BothTell (EndsDesk Says names slots s) a c
+refused_ends Says bad names slots r s a b c refuses which whole torn same = ⊎_elim
+    (λ e. subst (λ (x : Status). BothTell (EndsDesk Says names slots x) a c) (sym e)
+    (both_then (RefusesInstance names.instance r) (Adds outlet.Text (instance_text r)) (EndsDesk Says names slots status.BadInstance)
+    (λ t u v is f. subst (EndsDesk Says names slots status.BadInstance t) (sym (f ∙ ap (with_added outlet.Text (instance_text r)) is.others)) (refused_at Says names slots r t u is))
     a b c refuses (whole e)))
     (λ more. ⊎_elim
-    (λ e. subst (λ (x : Status). BothTell (EndsDesk names slots x) a c) (sym e)
-    (let (k, front) = torn e in both_then (RefusesInstance names.instance r) (Adds outlet.Text (take k (instance_text r))) (EndsDesk names slots status.WriteFault)
-    (λ t u v is f. subst (EndsDesk names slots status.WriteFault t) (sym (f ∙ ap (with_added outlet.Text (take k (instance_text r))) is.others)) (torn_at names slots r k t u is))
+    (λ e. subst (λ (x : Status). BothTell (EndsDesk Says names slots x) a c) (sym e)
+    (let (k, front) = torn e in both_then (RefusesInstance names.instance r) (Adds outlet.Text (take k (instance_text r))) (EndsDesk Says names slots status.WriteFault)
+    (λ t u v is f. subst (EndsDesk Says names slots status.WriteFault t) (sym (f ∙ ap (with_added outlet.Text (take k (instance_text r))) is.others)) (torn_at Says bad names slots r k t u is))
     a b c refuses front))
-    (λ e. subst (λ (x : Status). BothTell (EndsDesk names slots x) a c) (sym e)
-    (subst (λ (x : Option Told). BothTell (EndsDesk names slots status.NoMemory) a x) (sym (same e))
-    (both_to (RefusesInstance names.instance r) (EndsDesk names slots status.NoMemory)
-    (λ t u is. subst (EndsDesk names slots status.NoMemory t) (sym is.others) (silent_at names slots r t u is))
+    (λ e. subst (λ (x : Status). BothTell (EndsDesk Says names slots x) a c) (sym e)
+    (subst (λ (x : Option Told). BothTell (EndsDesk Says names slots status.NoMemory) a x) (sym (same e))
+    (both_to (RefusesInstance names.instance r) (EndsDesk Says names slots status.NoMemory)
+    (λ t u is. subst (EndsDesk Says names slots status.NoMemory t) (sym is.others) (silent_at Says names slots r t u is))
     a b refuses)))
     more)
     which
@@ -128,7 +129,7 @@ torn_keeps names i t u v proof printed r f =
     }
 
 ends_at : (names : Names) (slots : Option SlotsTold) (i : Instance) (s : Status) (t u v : Told) → ReadsInstance names.instance i t u → Finishes names i slots s u v
-    → EndsDesk names slots s t v
+    → EndsDesk SolveSays names slots s t v
 ends_at names slots i status.Optimal t u v r f =
     let d = r.others in
     let e = f.publishes in
@@ -155,6 +156,7 @@ ends_at names slots i status.Optimal t u v r f =
       };
     }
 ends_at names slots i status.Verified t u v r f = absurd f
+ends_at names slots i status.Toured t u v r f = absurd f
 ends_at names slots i status.Usage t u v r f = absurd f
 ends_at names slots i status.BadInstance t u v r f = absurd f
 ends_at names slots i status.Refused t u v r f = absurd f
@@ -187,6 +189,7 @@ ends_at names slots i status.WriteFault t u v r f = ⊎_elim
     (λ (x : TearsOptimal names i u v). record {
       ended = record {
         wanted = status.Optimal;
+        says = inl refl;
         proof = x.proof;
         printed = x.printed;
         answer = record { instance = i; read = r.read; optimal = x.optimal };
@@ -197,6 +200,7 @@ ends_at names slots i status.WriteFault t u v r f = ⊎_elim
     (λ (x : TearsStopped names i slots u v). record {
       ended = record {
         wanted = status.Stopped;
+        says = inr (inl refl);
         proof = [];
         printed = x.printed;
         answer = record { instance = i; body = x.body; read = r.read; stopped = x.stopped; saved = x.holds; no_proof = refl };
@@ -206,10 +210,10 @@ ends_at names slots i status.WriteFault t u v r f = ⊎_elim
     })
     f
 ends_at names slots i status.StoreFault t u v r f =
-    subst (EndsDesk names slots status.StoreFault t) (sym (f ∙ r.others)) (record { ended = record { proof = refl; printed = refl }; keeps = read_keeps names t })
+    subst (EndsDesk SolveSays names slots status.StoreFault t) (sym (f ∙ r.others)) (record { ended = record { proof = refl; printed = refl }; keeps = read_keeps names t })
 ends_at names slots i status.NoMemory t u v r f = absurd f
 
 pub finish_ends : (names : Names) (slots : Option SlotsTold) (i : Instance) (s : Status) (a b c : Option Told) → BothTell (ReadsInstance names.instance i) a b
-    → BothTell (Finishes names i slots s) b c → BothTell (EndsDesk names slots s) a c
-finish_ends names slots i s a b c reads finishes = both_then (ReadsInstance names.instance i) (Finishes names i slots s) (EndsDesk names slots s)
+    → BothTell (Finishes names i slots s) b c → BothTell (EndsDesk SolveSays names slots s) a c
+finish_ends names slots i s a b c reads finishes = both_then (ReadsInstance names.instance i) (Finishes names i slots s) (EndsDesk SolveSays names slots s)
     (λ t u v r f. ends_at names slots i s t u v r f) a b c reads finishes

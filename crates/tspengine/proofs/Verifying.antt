@@ -1,11 +1,11 @@
 -- What a run of `verify` ends with, said in the statuses of a run.
-use Rattle.std.proofs.Common.{◌≡◌, ℕ, List, [], refl, sym, ap, ◌∙◌, inl, inr, Option, codes, string_bytes, arith}
+use Rattle.std.proofs.Common.{◌≡◌, ℕ, List, [], refl, sym, ap, subst, ◌∙◌, inl, inr, Option, codes, string_bytes, arith}
 use Rattle.std.proofs.lemmas.List.{append-nil}
 use Rattle.ports.specs.Outside.{BothTell, Cause}
 use Rattle.ports.specs.Desk.{Told}
 use Rattle.ports.specs.Slots.{SlotsTold}
 use Rattle.clap.specs.Walk.{Text}
-use Rattle.tspwords.specs.Program.{IsSolveCall, IsVerifyCall}
+use Rattle.tspwords.specs.Program.{IsSolveCall, IsTourCall, IsVerifyCall}
 use Rattle.tspwords.specs.Says.{SaysVerify}
 use Rattle.tspwords.specs.declared.words.VerifyWords.{VerifyWords}
 use Rattle.verification.specs.Runs as checks
@@ -22,125 +22,72 @@ use Rattle.tspengine.specs.declared.statuses.Status.TheVariants as status
 
 -- ---- statuses
 
-is_verified : (v : VerifyStatus) → status_of v ≡ status.Verified → v ≡ checked.Verified
-is_verified checked.Verified e = refl
-is_verified checked.Usage e = cc
-is_verified checked.BadInstance e = cc
-is_verified checked.Refused e = cc
-is_verified checked.ReadFault e = cc
-is_verified checked.WriteFault e = cc
-is_verified checked.NoMemory e = cc
+-- the status of the verifier that a status is
+checked_of : Status → VerifyStatus
+checked_of status.Optimal = checked.NoMemory
+checked_of status.Verified = checked.Verified
+checked_of status.Toured = checked.NoMemory
+checked_of status.Usage = checked.Usage
+checked_of status.BadInstance = checked.BadInstance
+checked_of status.Refused = checked.Refused
+checked_of status.Stopped = checked.NoMemory
+checked_of status.ReadFault = checked.ReadFault
+checked_of status.WriteFault = checked.WriteFault
+checked_of status.StoreFault = checked.NoMemory
+checked_of status.NoMemory = checked.NoMemory
+
+there_and_back : (v : VerifyStatus) → checked_of (status_of v) ≡ v
+there_and_back checked.Verified = refl
+there_and_back checked.Usage = refl
+there_and_back checked.BadInstance = refl
+there_and_back checked.Refused = refl
+there_and_back checked.ReadFault = refl
+there_and_back checked.WriteFault = refl
+there_and_back checked.NoMemory = refl
+
+-- the status of a run tells the verifier's
+pub told_by : (s : Status) (v : VerifyStatus) (t : Status) → s ≡ status_of v → s ≡ t → v ≡ checked_of t
+told_by s v t is e = sym (there_and_back v) ∙ ap checked_of (sym is ∙ e)
 
 pub from_verified : (s : Status) (v : VerifyStatus) → s ≡ status_of v → s ≡ status.Verified → v ≡ checked.Verified
-from_verified s v is e = is_verified v (sym is ∙ e)
-
-is_used : (v : VerifyStatus) → status_of v ≡ status.Usage → v ≡ checked.Usage
-is_used checked.Verified e = cc
-is_used checked.Usage e = refl
-is_used checked.BadInstance e = cc
-is_used checked.Refused e = cc
-is_used checked.ReadFault e = cc
-is_used checked.WriteFault e = cc
-is_used checked.NoMemory e = cc
+from_verified s v is e = told_by s v status.Verified is e
 
 pub from_used : (s : Status) (v : VerifyStatus) → s ≡ status_of v → s ≡ status.Usage → v ≡ checked.Usage
-from_used s v is e = is_used v (sym is ∙ e)
-
-is_bad : (v : VerifyStatus) → status_of v ≡ status.BadInstance → v ≡ checked.BadInstance
-is_bad checked.Verified e = cc
-is_bad checked.Usage e = cc
-is_bad checked.BadInstance e = refl
-is_bad checked.Refused e = cc
-is_bad checked.ReadFault e = cc
-is_bad checked.WriteFault e = cc
-is_bad checked.NoMemory e = cc
+from_used s v is e = told_by s v status.Usage is e
 
 pub from_bad : (s : Status) (v : VerifyStatus) → s ≡ status_of v → s ≡ status.BadInstance → v ≡ checked.BadInstance
-from_bad s v is e = is_bad v (sym is ∙ e)
-
-is_refused : (v : VerifyStatus) → status_of v ≡ status.Refused → v ≡ checked.Refused
-is_refused checked.Verified e = cc
-is_refused checked.Usage e = cc
-is_refused checked.BadInstance e = cc
-is_refused checked.Refused e = refl
-is_refused checked.ReadFault e = cc
-is_refused checked.WriteFault e = cc
-is_refused checked.NoMemory e = cc
+from_bad s v is e = told_by s v status.BadInstance is e
 
 pub from_refused : (s : Status) (v : VerifyStatus) → s ≡ status_of v → s ≡ status.Refused → v ≡ checked.Refused
-from_refused s v is e = is_refused v (sym is ∙ e)
-
-is_unread : (v : VerifyStatus) → status_of v ≡ status.ReadFault → v ≡ checked.ReadFault
-is_unread checked.Verified e = cc
-is_unread checked.Usage e = cc
-is_unread checked.BadInstance e = cc
-is_unread checked.Refused e = cc
-is_unread checked.ReadFault e = refl
-is_unread checked.WriteFault e = cc
-is_unread checked.NoMemory e = cc
+from_refused s v is e = told_by s v status.Refused is e
 
 pub from_unread : (s : Status) (v : VerifyStatus) → s ≡ status_of v → s ≡ status.ReadFault → v ≡ checked.ReadFault
-from_unread s v is e = is_unread v (sym is ∙ e)
-
-is_unwritten : (v : VerifyStatus) → status_of v ≡ status.WriteFault → v ≡ checked.WriteFault
-is_unwritten checked.Verified e = cc
-is_unwritten checked.Usage e = cc
-is_unwritten checked.BadInstance e = cc
-is_unwritten checked.Refused e = cc
-is_unwritten checked.ReadFault e = cc
-is_unwritten checked.WriteFault e = refl
-is_unwritten checked.NoMemory e = cc
+from_unread s v is e = told_by s v status.ReadFault is e
 
 pub from_unwritten : (s : Status) (v : VerifyStatus) → s ≡ status_of v → s ≡ status.WriteFault → v ≡ checked.WriteFault
-from_unwritten s v is e = is_unwritten v (sym is ∙ e)
-
-is_short : (v : VerifyStatus) → status_of v ≡ status.NoMemory → v ≡ checked.NoMemory
-is_short checked.Verified e = cc
-is_short checked.Usage e = cc
-is_short checked.BadInstance e = cc
-is_short checked.Refused e = cc
-is_short checked.ReadFault e = cc
-is_short checked.WriteFault e = cc
-is_short checked.NoMemory e = refl
+from_unwritten s v is e = told_by s v status.WriteFault is e
 
 pub from_short : (s : Status) (v : VerifyStatus) → s ≡ status_of v → s ≡ status.NoMemory → v ≡ checked.NoMemory
-from_short s v is e = is_short v (sym is ∙ e)
+from_short s v is e = told_by s v status.NoMemory is e
 
-no_optimal : (v : VerifyStatus) → status_of v ≡ status.Optimal → ⊥
-no_optimal checked.Verified e = cc
-no_optimal checked.Usage e = cc
-no_optimal checked.BadInstance e = cc
-no_optimal checked.Refused e = cc
-no_optimal checked.ReadFault e = cc
-no_optimal checked.WriteFault e = cc
-no_optimal checked.NoMemory e = cc
+-- `verify` ends with none of these: the way there and back would change them
+back_and_there : (s : Status) (v : VerifyStatus) → s ≡ status_of v → status_of (checked_of s) ≡ s
+back_and_there s v is = ap (λ (x : Status). status_of (checked_of x)) is ∙ ap status_of (there_and_back v) ∙ sym is
+
+moved : (s : Status) (v : VerifyStatus) (t : Status) → s ≡ status_of v → s ≡ t → status_of (checked_of t) ≡ t
+moved s v t is e = subst (λ (x : Status). status_of (checked_of x) ≡ x) e (back_and_there s v is)
 
 pub never_optimal : (s : Status) (v : VerifyStatus) → s ≡ status_of v → s ≡ status.Optimal → ⊥
-never_optimal s v is e = no_optimal v (sym is ∙ e)
-
-no_stopped : (v : VerifyStatus) → status_of v ≡ status.Stopped → ⊥
-no_stopped checked.Verified e = cc
-no_stopped checked.Usage e = cc
-no_stopped checked.BadInstance e = cc
-no_stopped checked.Refused e = cc
-no_stopped checked.ReadFault e = cc
-no_stopped checked.WriteFault e = cc
-no_stopped checked.NoMemory e = cc
+never_optimal s v is e = let f : status.NoMemory ≡ status.Optimal = moved s v status.Optimal is e in cc
 
 pub never_stopped : (s : Status) (v : VerifyStatus) → s ≡ status_of v → s ≡ status.Stopped → ⊥
-never_stopped s v is e = no_stopped v (sym is ∙ e)
-
-no_stored : (v : VerifyStatus) → status_of v ≡ status.StoreFault → ⊥
-no_stored checked.Verified e = cc
-no_stored checked.Usage e = cc
-no_stored checked.BadInstance e = cc
-no_stored checked.Refused e = cc
-no_stored checked.ReadFault e = cc
-no_stored checked.WriteFault e = cc
-no_stored checked.NoMemory e = cc
+never_stopped s v is e = let f : status.NoMemory ≡ status.Stopped = moved s v status.Stopped is e in cc
 
 pub never_stored : (s : Status) (v : VerifyStatus) → s ≡ status_of v → s ≡ status.StoreFault → ⊥
-never_stored s v is e = no_stored v (sym is ∙ e)
+never_stored s v is e = let f : status.NoMemory ≡ status.StoreFault = moved s v status.StoreFault is e in cc
+
+pub never_toured : (s : Status) (v : VerifyStatus) → s ≡ status_of v → s ≡ status.Toured → ⊥
+never_toured s v is e = let f : status.NoMemory ≡ status.Toured = moved s v status.Toured is e in cc
 
 pub never_solves : (s : Status) (v : VerifyStatus) → s ≡ status_of v → IsSolveStatus s → ⊥
 never_solves s v is which = elim which [
@@ -181,6 +128,9 @@ store_cause s v count is = record { later = omega arith; rose = λ e. absurd (ne
 
 pub one_call : (words : List Text) → IsSolveCall words → IsVerifyCall words → ⊥
 one_call words solve verify = let e : codes "solve" ≡ codes "verify" = sym solve.named ∙ verify.named in cc
+
+pub no_tour_call : (words : List Text) → IsTourCall words → IsVerifyCall words → ⊥
+no_tour_call words tour verify = let e : codes "tour" ≡ codes "verify" = sym tour.named ∙ verify.named in cc
 
 pub same_paths : (words : List Text) (v : VerifyWords) → SaysVerify words v → paths_in v ≡ paths_of words
 same_paths words v says = ap (λ (x : List ℕ). record { instance = x; proof = string_bytes v.proof }) says.instance

@@ -1,4 +1,4 @@
--- What `solve` answers with each status that has a text: what the proof's outlet takes, and then what standard output takes.
+-- What `solve` and `tour` answer with each status that has a text: what the proof's outlet takes, and then what standard output takes.
 use Rattle.std.specs.Prelude.{◌≡◌, List, ℕ, [], Option, Some}
 use Rattle.ports.specs.Outside.{WhereTold}
 use Rattle.ports.specs.Slots.{SlotsTold}
@@ -8,7 +8,7 @@ use Rattle.tspinst.specs.Refusals.{number_of, line_of, extras_of}
 use Rattle.tspinst.specs.declared.refusals.Refusal.{Refusal}
 use Rattle.slotstore.specs.Store.{loaded}
 use Rattle.verification.specs.Texts.{instance_text}
-use Rattle.tspengine.specs.Outcomes.{IsOptimal, IsStopped}
+use Rattle.tspengine.specs.Outcomes.{IsOptimal, IsStopped, IsTouring}
 use Rattle.tspengine.specs.declared.statuses.Status.{Status}
 use Rattle.tspengine.specs.declared.statuses.Status.TheVariants as status
 
@@ -27,6 +27,13 @@ pub record IsStoppedAnswer (budget : ℕ) (bytes : List ℕ) (slots : Option Slo
   pub saved : WhereTold (λ t. loaded t ≡ Some body) slots
   pub no_proof : proof ≡ []
 
+-- the bytes of the instance are its text, and a tour of it is printed
+pub record IsTouredAnswer (bytes proof printed : List ℕ) : Type 0 where
+  pub instance : Instance
+  pub read : InstanceText bytes instance
+  pub touring : IsTouring instance printed
+  pub no_proof : proof ≡ []
+
 -- the bytes of the instance have this first refusal
 pub record IsRefusedAnswer (bytes proof printed : List ℕ) : Type 0 where
   pub refusal : Refusal
@@ -38,6 +45,7 @@ pub record IsRefusedAnswer (bytes proof printed : List ℕ) : Type 0 where
 abbrev pub IsAnswer : ℕ → List ℕ → Option SlotsTold → Status → List ℕ → List ℕ → Type 0
 IsAnswer budget bytes slots status.Optimal proof printed = IsOptimalAnswer bytes proof printed
 IsAnswer budget bytes slots status.Verified proof printed = ⊥
+IsAnswer budget bytes slots status.Toured proof printed = IsTouredAnswer bytes proof printed
 IsAnswer budget bytes slots status.Usage proof printed = ⊥
 IsAnswer budget bytes slots status.BadInstance proof printed = IsRefusedAnswer bytes proof printed
 IsAnswer budget bytes slots status.Refused proof printed = ⊥

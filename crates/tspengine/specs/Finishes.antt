@@ -44,6 +44,7 @@ pub record TearsStopped (names : Names) (i : Instance) (slots : Option SlotsTold
 abbrev pub Finishes : Names → Instance → Option SlotsTold → Status → Told → Told → Type 0
 Finishes names i slots status.Optimal t u = FinishesOptimal names i t u
 Finishes names i slots status.Verified t u = ⊥
+Finishes names i slots status.Toured t u = ⊥
 Finishes names i slots status.Usage t u = ⊥
 Finishes names i slots status.BadInstance t u = ⊥
 Finishes names i slots status.Refused t u = ⊥
@@ -57,6 +58,7 @@ Finishes names i slots status.NoMemory t u = ⊥
 abbrev pub SavesAt : Status → SlotsTold → SlotsTold → Type 0
 SavesAt status.Optimal t u = u ≡ t
 SavesAt status.Verified t u = ⊥
+SavesAt status.Toured t u = ⊥
 SavesAt status.Usage t u = ⊥
 SavesAt status.BadInstance t u = ⊥
 SavesAt status.Refused t u = ⊥

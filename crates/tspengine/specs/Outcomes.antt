@@ -1,11 +1,12 @@
--- What came of an instance: a proof that a tour is shortest, or a body to go on from.
+-- What came of an instance: a proof that a tour is shortest, or a body to go on from; or a tour alone.
 use Rattle.std.specs.Prelude.{◌≡◌, ℕ, ◌<◌, ◌≤◌, List, []}
 use Rattle.tspdef.specs.Tours.{IsCanonical}
 use Rattle.tspdef.specs.Instances.{Instance, IsTourOf, length_in}
 use Rattle.tspdef.specs.Trees.{open_leaves, settled}
 use Rattle.certdef.specs.Proofs.{Proof, text}
 use Rattle.certdef.specs.Accepted.{HasForm, IsSoundProof, IsAcceptedText, IsTextOf, from_zero, tree_in}
-use Rattle.opening.specs.Openings.{opening_length}
+use Rattle.opening.specs.Openings.{IsOpeningTour, opening_length}
+use Rattle.tourfmt.specs.Texts.{IsTourText}
 use Rattle.plainsearch.specs.Splits.{SplitsAreNeeded}
 use Rattle.tspengine.specs.Texts.{optimal_text, stopped_text}
 use Rattle.tspengine.specs.declared.outcomes.Outcome.{Outcome}
@@ -43,3 +44,10 @@ pub record IsStopped (i : Instance) (budget : ℕ) (body printed : List ℕ) : T
 abbrev pub IsOutcome : Instance → ℕ → Outcome → Type 0
 IsOutcome i budget (outcome.Optimal proof printed) = IsOptimal i proof.items printed.items
 IsOutcome i budget (outcome.Stopped body printed) = IsStopped i budget body.items printed.items
+
+-- The text of a tour is printed. It is no longer than the nearest-neighbour walk, and no exchange of two steps with a near
+-- replacement shortens it.
+pub record IsTouring (i : Instance) (printed : List ℕ) : Type 0 where
+  pub tour : List ℕ
+  pub opening : IsOpeningTour i tour
+  pub prints : IsTourText tour printed

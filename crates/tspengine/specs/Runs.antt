@@ -3,7 +3,7 @@ use Rattle.std.specs.Prelude.{◌≡◌, ℕ, ◌⊎◌, List, [], ◌++◌, dro
 use Rattle.ports.specs.Desk.{Told}
 use Rattle.ports.specs.Slots.{SlotsTold, with_path}
 use Rattle.tspengine.specs.Names.{Names}
-use Rattle.tspengine.specs.Answers.{IsAnswer, IsOptimalAnswer, IsStoppedAnswer, IsRefusedAnswer}
+use Rattle.tspengine.specs.Answers.{IsAnswer, IsOptimalAnswer, IsStoppedAnswer, IsTouredAnswer, IsRefusedAnswer}
 use Rattle.verification.specs.Transfers.{IsBoundTo}
 use Rattle.tspengine.specs.Transfers.{TakesFronts}
 use Rattle.tspengine.specs.Texts.{usage_text}
@@ -39,6 +39,15 @@ pub record IsStoppedRun (names : Names) (slots : Option SlotsTold) (t u : Told) 
   pub whole : u.instance ≡ []
   pub instance_path : u.instance_path ≡ Some names.instance
 
+-- standard output took the answer; the instance was read to its end and is bound to its word
+pub record IsTouredRun (names : Names) (t u : Told) : Type 0 where
+  pub proof : List ℕ
+  pub printed : List ℕ
+  pub answer : IsTouredAnswer t.instance proof printed
+  pub takes : Takes proof printed t u
+  pub whole : u.instance ≡ []
+  pub instance_path : u.instance_path ≡ Some names.instance
+
 -- the outlets took the answer; the instance is bound to its word
 pub record IsRefusedRun (names : Names) (t u : Told) : Type 0 where
   pub proof : List ℕ
@@ -55,9 +64,18 @@ IsUsageRun t u = u ≡ record t { text = t.text ++ usage_text }
 abbrev pub IsTornUsage : Told → Told → Type 0
 IsTornUsage t u = TakesFronts [] usage_text t u
 
--- fronts of an answer were taken
-pub record IsTornRun (names : Names) (slots : Option SlotsTold) (t u : Told) : Type 0 where
+-- the statuses of `solve` to which an answer belongs
+abbrev pub SolveSays : Status → Type 0
+SolveSays s = (s ≡ status.Optimal) ⊎ (s ≡ status.Stopped) ⊎ (s ≡ status.BadInstance)
+
+-- those of `tour`
+abbrev pub TourSays : Status → Type 0
+TourSays s = (s ≡ status.Toured) ⊎ (s ≡ status.BadInstance)
+
+-- fronts of an answer of a command were taken
+pub record IsTornRun (Says : Status → Type 0) (names : Names) (slots : Option SlotsTold) (t u : Told) : Type 0 where
   pub wanted : Status
+  pub says : Says wanted
   pub proof : List ℕ
   pub printed : List ℕ
   pub answer : IsAnswer names.budget t.instance slots wanted proof printed
@@ -96,6 +114,18 @@ IsSolveStatus s = (s ≡ status.Optimal) ⊎ (s ≡ status.Stopped) ⊎ (s ≡ s
 abbrev pub IsVerifyStatus : Status → Type 0
 IsVerifyStatus s = (s ≡ status.Verified) ⊎ (s ≡ status.Refused)
 
+-- they were words of `tour`
+abbrev pub IsTourStatus : Status → Type 0
+IsTourStatus s = s ≡ status.Toured
+
+-- what a call of `tour` may end with
+abbrev pub EndsTour : Status → Type 0
+EndsTour s = (s ≡ status.Toured) ⊎ (s ≡ status.BadInstance) ⊎ (s ≡ status.ReadFault) ⊎ (s ≡ status.WriteFault) ⊎ (s ≡ status.NoMemory)
+
+-- Toured, or want of memory
+abbrev pub IsToured : Status → Type 0
+IsToured s = (s ≡ status.Toured) ⊎ (s ≡ status.NoMemory)
+
 -- Verified or Refused, or want of memory
 abbrev pub IsJudged : Status → Type 0
 IsJudged s = (s ≡ status.Verified) ⊎ (s ≡ status.Refused) ⊎ (s ≡ status.NoMemory)
@@ -106,7 +136,7 @@ IsVerified s = (s ≡ status.Verified) ⊎ (s ≡ status.NoMemory)
 
 -- nothing was saved to the slots
 abbrev pub IsUnsaved : Status → Type 0
-IsUnsaved s = (s ≡ status.Optimal) ⊎ (s ≡ status.Usage) ⊎ (s ≡ status.BadInstance) ⊎ (s ≡ status.ReadFault) ⊎ (s ≡ status.NoMemory)
+IsUnsaved s = (s ≡ status.Optimal) ⊎ (s ≡ status.Toured) ⊎ (s ≡ status.Usage) ⊎ (s ≡ status.BadInstance) ⊎ (s ≡ status.ReadFault) ⊎ (s ≡ status.NoMemory)
 
 -- the slots are bound to their word
 abbrev pub IsSlotted : Status → Type 0
@@ -118,21 +148,22 @@ IsSolved s = (s ≡ status.Optimal) ⊎ (s ≡ status.Stopped) ⊎ (s ≡ status
 
 -- ---- by status, for the steps of a run
 
-abbrev pub IsEnded : Names → Option SlotsTold → Status → Told → Told → Type 0
-IsEnded names slots status.Optimal t u = IsOptimalRun names t u
-IsEnded names slots status.Verified t u = ⊥
-IsEnded names slots status.Usage t u = ⊥
-IsEnded names slots status.BadInstance t u = IsRefusedRun names t u
-IsEnded names slots status.Refused t u = ⊥
-IsEnded names slots status.Stopped t u = IsStoppedRun names slots t u
-IsEnded names slots status.ReadFault t u = TakesNothing t u
-IsEnded names slots status.WriteFault t u = IsTornRun names slots t u
-IsEnded names slots status.StoreFault t u = TakesNothing t u
-IsEnded names slots status.NoMemory t u = TakesNothing t u
+abbrev pub IsEnded : (Status → Type 0) → Names → Option SlotsTold → Status → Told → Told → Type 0
+IsEnded Says names slots status.Optimal t u = IsOptimalRun names t u
+IsEnded Says names slots status.Verified t u = ⊥
+IsEnded Says names slots status.Toured t u = IsTouredRun names t u
+IsEnded Says names slots status.Usage t u = ⊥
+IsEnded Says names slots status.BadInstance t u = IsRefusedRun names t u
+IsEnded Says names slots status.Refused t u = ⊥
+IsEnded Says names slots status.Stopped t u = IsStoppedRun names slots t u
+IsEnded Says names slots status.ReadFault t u = TakesNothing t u
+IsEnded Says names slots status.WriteFault t u = IsTornRun Says names slots t u
+IsEnded Says names slots status.StoreFault t u = TakesNothing t u
+IsEnded Says names slots status.NoMemory t u = TakesNothing t u
 
--- how a run ends on the desk
-pub record EndsDesk (names : Names) (slots : Option SlotsTold) (s : Status) (t u : Told) : Type 0 where
-  pub ended : IsEnded names slots s t u
+-- how a run of a command ends on the desk
+pub record EndsDesk (Says : Status → Type 0) (names : Names) (slots : Option SlotsTold) (s : Status) (t u : Told) : Type 0 where
+  pub ended : IsEnded Says names slots s t u
   pub keeps : KeepsDesk names t u
 
 -- how a run ends on the slots

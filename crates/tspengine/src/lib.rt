@@ -8,6 +8,7 @@ mod publishing;
 mod running;
 mod statuses;
 mod texts;
+mod touring;
 
 pub use running::run;
 pub use statuses::Status;

@@ -8,6 +8,7 @@ ghost use Rattle.tspengine.specs.Outcomes.{IsOutcome};
 
 use crate::texts::{optimal_text, stopped_text};
 use certform::{body, tables_fit, written_is_faithful};
+use opening::find_opening;
 use plainsearch::{Found, search};
 use std::alloc::{AllocError, Global};
 use tspdef::{accepted_is_optimal, tours_are_cycles};
@@ -22,16 +23,18 @@ pub enum Outcome {
     Stopped { body: Vec<u8>, printed: Vec<u8> },
 }
 
-/// Searches within a budget, and writes down what was found.
+/// Searches within a budget from the tour that a seed gives, and writes down what was found.
 pub(crate) fn outcome_of(
     alloc: Global,
     instance: &Instance,
     budget: u32,
+    seed: u64,
 ) -> Result<Outcome, AllocError>
     requires { budget ≤ 65536 }
     ensures { IfOk result (IsOutcome instance.now budget) }
 {
-    let found = search(alloc, instance, budget)?;
+    let opening = find_opening(alloc, instance, seed)?;
+    let found = search(alloc, instance, opening, budget)?;
     let body = body(alloc, instance, &found.best, &found.tree)?;
     if found.tree.open_nodes() == 0 {
         optimal(alloc, instance, &found, body)

@@ -4,19 +4,20 @@ ghost use Rattle.ports.specs.Outside.{BothTell, Cause};
 ghost use Rattle.tspinst.specs.Texts.{InstanceText};
 ghost use Rattle.tspdef.specs.Instances as instances;
 ghost use Rattle.certdef.specs.Accepted.{IsAcceptedText};
-ghost use Rattle.tspwords.specs.Program.{IsTaken, IsSolveCall, IsVerifyCall};
+ghost use Rattle.tspwords.specs.Program.{IsTaken, IsSolveCall, IsTourCall, IsVerifyCall};
 ghost use Rattle.verification.specs.Counts.{IsCalm, IsTold};
 ghost use Rattle.verification.specs.Runs as checks;
 ghost use Rattle.tspengine.specs.Names.{Names, names_of, names_in, paths_of};
 ghost use Rattle.tspengine.specs.Transfers.{either};
 ghost use Rattle.tspengine.specs.Outcomes.{IsOutcome};
 ghost use Rattle.tspengine.specs.Finishes.{Finishes, SavesAt, IsFinishStatus};
-ghost use Rattle.tspengine.specs.Runs.{IsOptimalRun, IsStoppedRun, IsRefusedRun, IsUsageRun, IsTornRun, IsTornUsage, TakesNothing, KeepsDesk, KeepsSlotsPath, KeepsSlots, IsSilent, IsPastWords, IsSolveStatus, IsVerifyStatus, IsUnsaved, IsSlotted, IsSolved, IsJudged, IsVerified, EndsDesk, EndsSlots};
+ghost use Rattle.tspengine.specs.Runs.{IsOptimalRun, IsStoppedRun, IsRefusedRun, IsUsageRun, IsTouredRun, IsTornRun, IsTornUsage, TakesNothing, SolveSays, TourSays, KeepsDesk, KeepsSlotsPath, KeepsSlots, IsSilent, IsPastWords, IsSolveStatus, IsTourStatus, IsVerifyStatus, IsUnsaved, IsSlotted, IsSolved, IsToured, IsJudged, IsVerified, EndsDesk, EndsSlots};
 
 use crate::outcomes::{Outcome, outcome_of};
 use crate::publishing::{publish, read_instance, refuse};
 use crate::statuses::{Status, status_of};
 use crate::texts::USAGE;
+use crate::touring::tour_instance;
 use ports::{Desk, Outlet, Slots, write_all};
 use slotstore::save;
 use std::alloc::Global;
@@ -25,15 +26,18 @@ use verification::{Reading, verify};
 
 /// Does what the words of a command line say, of which the first is the program's name, and says how it ended.
 ///
-/// `solve INSTANCE PROOF RESTART [--budget N]` reads the instance, and searches until no node of its tree is open or N of
-/// them are settled. In the first case it writes the proof that a tour is shortest, and prints `OPTIMAL` with the tour; in
+/// `solve INSTANCE PROOF RESTART [--budget N] [--seed S]` reads the instance, and searches from the tour that `tour` prints for
+/// the same seed, until no node of its tree is open or N of them are settled. In the first case it writes the proof that a tour is shortest, and prints `OPTIMAL` with the tour; in
 /// the second it saves to the slots a body to go on from, and prints `STOPPED`.
 ///
 /// `verify INSTANCE PROOF` reads the instance and then the proof, whoever wrote it, and prints `VERIFIED` and the length of a
 /// shortest tour where the proof is accepted, and else `REFUSED` and its first refusal with the line of it.
 ///
-/// Where the desk or the slots do not tell what they hold, the clauses speak of the counts of faults alone. `verify` leaves the
-/// slots alone.
+/// `tour INSTANCE [--seed S]` reads the instance, and prints the text of a good tour of it: one no longer than the
+/// nearest-neighbour walk, which no exchange of two steps shortens where a replacement is near. S chooses among such tours.
+///
+/// Where the desk or the slots do not tell what they hold, the clauses speak of the counts of faults alone. Only `solve` touches
+/// the slots.
 pub fn run<R, D: Desk, L: Slots>(
     _rt: &R,
     alloc: Global,
@@ -47,6 +51,8 @@ pub fn run<R, D: Desk, L: Slots>(
         → BothTell (IsStoppedRun (names_of (map string_bytes words.now)) (L.told slots.new)) (D.told desk.old) (D.told desk.new) }
     ensures verified { result ≡ Status.Verified
         → BothTell (checks.IsVerifiedRun (paths_of (map string_bytes words.now))) (D.told desk.old) (D.told desk.new) }
+    ensures toured { result ≡ Status.Toured
+        → BothTell (IsTouredRun (names_of (map string_bytes words.now))) (D.told desk.old) (D.told desk.new) }
     ensures refused { result ≡ Status.Refused
         → BothTell (checks.IsRefusedRun (paths_of (map string_bytes words.now))) (D.told desk.old) (D.told desk.new) }
     ensures bad_instance { result ≡ Status.BadInstance
@@ -55,6 +61,7 @@ pub fn run<R, D: Desk, L: Slots>(
         → ¬ IsTaken (map string_bytes words.now) × BothTell IsUsageRun (D.told desk.old) (D.told desk.new) }
     ensures words { IsPastWords result → IsTaken (map string_bytes words.now) }
     ensures solves { IsSolveStatus result → IsSolveCall (map string_bytes words.now) }
+    ensures tours { IsTourStatus result → IsTourCall (map string_bytes words.now) }
     ensures verifies { IsVerifyStatus result → IsVerifyCall (map string_bytes words.now) }
     ensures reads { Cause (result ≡ Status.ReadFault) (D.read_faults desk.old) (D.read_faults desk.new) }
     ensures writes { Cause (result ≡ Status.WriteFault) (D.write_faults desk.old) (D.write_faults desk.new) }
@@ -62,14 +69,16 @@ pub fn run<R, D: Desk, L: Slots>(
     ensures silent { IsSilent result → BothTell TakesNothing (D.told desk.old) (D.told desk.new) }
     ensures torn { result ≡ Status.WriteFault
         → (IsSolveCall (map string_bytes words.now)
-        × BothTell (IsTornRun (names_of (map string_bytes words.now)) (L.told slots.new)) (D.told desk.old) (D.told desk.new))
+        × BothTell (IsTornRun SolveSays (names_of (map string_bytes words.now)) (L.told slots.new)) (D.told desk.old) (D.told desk.new))
+        ⊎ (IsTourCall (map string_bytes words.now)
+        × BothTell (IsTornRun TourSays (names_of (map string_bytes words.now)) (L.told slots.new)) (D.told desk.old) (D.told desk.new))
         ⊎ (IsVerifyCall (map string_bytes words.now) × BothTell checks.IsTornRun (D.told desk.old) (D.told desk.new))
         ⊎ (¬ IsTaken (map string_bytes words.now) × BothTell IsTornUsage (D.told desk.old) (D.told desk.new)) }
     ensures desk { ¬ IsVerifyCall (map string_bytes words.now)
         → BothTell (KeepsDesk (names_of (map string_bytes words.now))) (D.told desk.old) (D.told desk.new) }
     ensures verify_desk { IsVerifyCall (map string_bytes words.now)
         → BothTell (checks.KeepsDesk (paths_of (map string_bytes words.now))) (D.told desk.old) (D.told desk.new) }
-    ensures verify_slots { IsVerifyCall (map string_bytes words.now)
+    ensures other_slots { ¬ IsSolveCall (map string_bytes words.now)
         → (L.told slots.new ≡ L.told slots.old) × (L.faults slots.new ≡ L.faults slots.old) }
     ensures slots { BothTell (EndsSlots (names_of (map string_bytes words.now)) result) (L.told slots.old) (L.told slots.new) }
     ensures complete { (i : instances.Instance) → IsSolveCall (map string_bytes words.now)
@@ -77,6 +86,10 @@ pub fn run<R, D: Desk, L: Slots>(
         → IsCalm (D.read_faults desk.old) (D.read_faults desk.new)
         → IsCalm (D.write_faults desk.old) (D.write_faults desk.new)
         → IsCalm (L.faults slots.old) (L.faults slots.new) → IsSolved result }
+    ensures walks { (i : instances.Instance) → IsTourCall (map string_bytes words.now)
+        → IsTold (λ t. InstanceText t.instance i) (D.told desk.old)
+        → IsCalm (D.read_faults desk.old) (D.read_faults desk.new)
+        → IsCalm (D.write_faults desk.old) (D.write_faults desk.new) → IsToured result }
     ensures judges { (i : instances.Instance) → IsVerifyCall (map string_bytes words.now)
         → IsTold (λ t. InstanceText t.instance i) (D.told desk.old)
         → IsCalm (D.read_faults desk.old) (D.read_faults desk.new)
@@ -88,6 +101,7 @@ pub fn run<R, D: Desk, L: Slots>(
 {
     match read_command(alloc, words) {
         Ok(Command::Solve(solve)) => merge(solve_instance(alloc, &solve, desk, slots)),
+        Ok(Command::Tour(words)) => merge(tour_instance(alloc, &words, desk)),
         Ok(Command::Verify(words)) => status_of(verify(alloc, &words, desk)),
         Err(WordsError::Usage) => usage(desk),
         Err(WordsError::NoMemory) => Status::NoMemory,
@@ -125,10 +139,10 @@ fn solve_instance<D: Desk, L: Slots>(
     slots: &mut L,
 ) -> Result<Status, Status>
     requires { solve.now.budget ≤ 65536 }
-    ensures desk { BothTell (EndsDesk (names_in solve.now) (L.told slots.new) (either result)) (D.told desk.old) (D.told desk.new) }
+    ensures desk { BothTell (EndsDesk SolveSays (names_in solve.now) (L.told slots.new) (either result)) (D.told desk.old) (D.told desk.new) }
     ensures slots { BothTell (EndsSlots (names_in solve.now) (either result)) (L.told slots.old) (L.told slots.new) }
     ensures status { either result ≢ Status.Usage }
-    ensures other { (either result ≢ Status.Verified) × (either result ≢ Status.Refused) }
+    ensures other { (either result ≢ Status.Verified) × (either result ≢ Status.Refused) × (either result ≢ Status.Toured) }
     ensures reads { Cause (either result ≡ Status.ReadFault) (D.read_faults desk.old) (D.read_faults desk.new) }
     ensures writes { Cause (either result ≡ Status.WriteFault) (D.write_faults desk.old) (D.write_faults desk.new) }
     ensures store { Cause (either result ≡ Status.StoreFault) (L.faults slots.old) (L.faults slots.new) }
@@ -139,7 +153,7 @@ fn solve_instance<D: Desk, L: Slots>(
             if slots.bind(&solve.restart).is_err() {
                 return Err(Status::StoreFault);
             }
-            match outcome_of(alloc, &instance, solve.budget) {
+            match outcome_of(alloc, &instance, solve.budget, solve.seed) {
                 Ok(outcome) => Ok(finish(solve, desk, slots, &outcome)),
                 Err(_) => Err(Status::NoMemory),
             }

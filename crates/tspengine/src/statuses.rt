@@ -13,6 +13,8 @@ pub enum Status {
     Optimal,
     /// The proof is accepted: no tour is shorter than the printed length.
     Verified,
+    /// A tour of the instance was printed.
+    Toured,
     /// The words are not of a command's form.
     Usage,
     /// The bytes of the instance are not an instance's text.
@@ -37,7 +39,7 @@ impl Status {
         ensures { result ≡ code_of self }
     {
         match self {
-            Status::Optimal | Status::Verified => 0,
+            Status::Optimal | Status::Verified | Status::Toured => 0,
             Status::Usage => 2,
             Status::BadInstance => 3,
             Status::Refused => 4,

@@ -141,7 +141,7 @@ returns-in-Ok-Verify-clause-torn g c =
     let a = g.D.Desk.told c.args.desk.now in
     let b = g.D.Desk.told c.verify.new.desk in
     let ends = subst (λ (p : Paths). BothTell (checks.EndsDesk p v) a b) (same_paths words c.in-Ok-Verify.words says) c.verify.ensures.desk in
-    λ e. inr (inl (call, torn_run paths a b (at_status paths v checked.WriteFault a b (from_unwritten s v is e) ends)))
+    λ e. inr (inr (inl (call, torn_run paths a b (at_status paths v checked.WriteFault a b (from_unwritten s v is e) ends))))
 
 pub returns-in-Ok-Verify-clause-desk : goal.returns-in-Ok-Verify-clause-desk
 returns-in-Ok-Verify-clause-desk g c =
@@ -166,8 +166,8 @@ returns-in-Ok-Verify-clause-verify_desk g c =
     let ends = subst (λ (p : Paths). BothTell (checks.EndsDesk p v) a b) (same_paths words c.in-Ok-Verify.words says) c.verify.ensures.desk in
     λ _. keeps_run paths v a b ends
 
-pub returns-in-Ok-Verify-clause-verify_slots : goal.returns-in-Ok-Verify-clause-verify_slots
-returns-in-Ok-Verify-clause-verify_slots g c =
+pub returns-in-Ok-Verify-clause-other_slots : goal.returns-in-Ok-Verify-clause-other_slots
+returns-in-Ok-Verify-clause-other_slots g c =
     let words = map string_bytes c.args.words.now in
     let s = c.status_of.result in
     let v = c.verify.result in

@@ -4,6 +4,7 @@ use Rattle.verification.specs.declared.reading.Reading.{Reading}
 use Rattle.tspengine.specs.declared.statuses.Status.TheVariants as status
 use Rattle.tspengine.specs.Names.{names_in}
 use Rattle.verification.specs.Transfers.{ReadsInstance, RefusesInstance}
+use Rattle.tspengine.specs.Runs.{SolveSays}
 use Rattle.tspengine.specs.Transfers.{either}
 use Rattle.verification.specs.Readings.{IsReadingOf}
 use Rattle.tspengine.proofs.Ends.{read_silent, refused_ends, finish_ends}
@@ -17,7 +18,7 @@ returns-in-Refused-clause-desk g c =
     let b = g.D.Desk.told c.read_instance.new.desk in
     let refuses = subst (λ (w : List ℕ). BothTell (RefusesInstance w r) a b) c.deref.ensures
     (subst (λ (x : Reading). BothTell (IsReadingOf c.deref.result.now x) a b) c.in-Refused.is c.in_ok-refusal.ensures.reading) in
-    refused_ends names (g.L.Slots.told c.args.slots.now) r (either c.refuse.result) a b (g.D.Desk.told c.refuse.new.desk) refuses
+    refused_ends SolveSays (inr (inr refl)) names (g.L.Slots.told c.args.slots.now) r (either c.refuse.result) a b (g.D.Desk.told c.refuse.new.desk) refuses
     c.refuse.ensures.status c.refuse.ensures.refused c.refuse.ensures.torn c.refuse.ensures.silent
 
 pub returns-then-is_err-clause-desk : goal.returns-then-is_err-clause-desk
@@ -28,7 +29,7 @@ returns-then-is_err-clause-desk g c =
     let b = g.D.Desk.told c.read_instance.new.desk in
     let reads = subst (λ (w : List ℕ). BothTell (ReadsInstance w i) a b) c.deref.ensures
     (subst (λ (x : Reading). BothTell (IsReadingOf c.deref.result.now x) a b) c.in-Instance.is c.in_ok-refusal.ensures.reading) in
-    read_silent names (g.L.Slots.told c.bind.new.self) i status.StoreFault (inl refl) a b reads
+    read_silent SolveSays names (g.L.Slots.told c.bind.new.self) i status.StoreFault (inl refl) a b reads
 
 pub returns-clause-desk : goal.returns-clause-desk
 returns-clause-desk g c =
@@ -38,7 +39,7 @@ returns-clause-desk g c =
     let b = g.D.Desk.told c.read_instance.new.desk in
     let reads = subst (λ (w : List ℕ). BothTell (ReadsInstance w i) a b) c.deref.ensures
     (subst (λ (x : Reading). BothTell (IsReadingOf c.deref.result.now x) a b) c.in-Instance.is c.in_ok-refusal.ensures.reading) in
-    read_silent names (g.L.Slots.told c.bind.new.self) i status.NoMemory (inr refl) a b reads
+    read_silent SolveSays names (g.L.Slots.told c.bind.new.self) i status.NoMemory (inr refl) a b reads
 
 pub returns-in-Ok-clause-desk : goal.returns-in-Ok-clause-desk
 returns-in-Ok-clause-desk g c =
