@@ -149,8 +149,9 @@ both_fault_free : (name a b c d e : Text) → IsPlain a → IsPlain b → IsPlai
     → IsTaken (name ∷ codes "solve" ∷ a ∷ b ∷ c ∷ codes "--budget" ∷ d ∷ codes "--seed" ∷ e ∷ [])
 unfolding clap_on_literals
 both_fault_free name a b c d e pa pb pc pd pe is_d is_e =
-    rw (not_dashes a pa, not_long a pa, not_short a pa, not_dashes b pb, not_long b pb, not_short b pb, not_dashes c pc, not_long c pc, not_short c pc, not_dashes d pd, not_long d pd, not_short d pd, not_dashes e pe, not_long e pe, not_short e pe)
-    ?
+    rw (not_dashes a pa, not_long a pa, not_short a pa, not_dashes b pb, not_long b pb, not_short b pb, not_dashes c pc, not_long c pc, not_short c pc)
+    (rw (not_dashes d pd, not_long d pd, not_short d pd)
+    (rw (not_dashes e pe, not_long e pe, not_short e pe) ?))
 
 both_rows_are : (name a b c d e : Text) → IsPlain a → IsPlain b → IsPlain c → IsPlain d → IsPlain e
     → rows_of_words (name ∷ codes "solve" ∷ a ∷ b ∷ c ∷ codes "--budget" ∷ d ∷ codes "--seed" ∷ e ∷ []) ≡ given (codes "instance") a ∷ given (codes "proof") b ∷ given (codes "restart") c ∷ given (codes "budget") d ∷ given (codes "seed") e ∷ []
