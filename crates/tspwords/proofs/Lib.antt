@@ -2,3 +2,4 @@ pub mod PlainWords
 pub mod Numbers
 pub mod Given
 pub mod Taken
+pub mod Options

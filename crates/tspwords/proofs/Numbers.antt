@@ -1,5 +1,5 @@
 -- The number that a word says.
-use Rattle.std.proofs.Common.{◌≡◌, ◌≤◌, ◌×◌, ℕ, Bool, true, false, cond, List, refl, sym, ap, ◌∙◌, arith, Result, Ok, Err}
+use Rattle.std.proofs.Common.{◌≡◌, ◌≤◌, ℕ, Bool, true, false, cond, List, refl, sym, ap, ◌∙◌, arith, Result, Ok, Err}
 use Rattle.std.specs.Result.{result_unwrap_or}
 use Rattle.std.specs.Str.Parse.{ParsesUnsigned}
 use Rattle.clap.specs.Values.{IsUnsignedIn}

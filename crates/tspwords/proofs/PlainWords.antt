@@ -15,25 +15,25 @@ use Rattle.clap.specs.Values.{IsUnsignedIn}
 use Rattle.clap.specs.ValueTests.{is_unsigned_in}
 use Rattle.clap.specs.Simple.{matches_of}
 use Rattle.tspwords.specs.Program.{IsTaken, IsVerifierCall, command_word, rows_of_words, most_budget, most_seed, verifier}
-use Rattle.tspwords.specs.Laws.{IsPlain, PathsAreTaken, BudgetsAreTaken, SeedsAreTaken, BudgetsAndSeedsAreTaken, VerifyIsTaken, TourIsTaken, TourSeedsAreTaken, VerifierIsTaken}
+use Rattle.tspwords.specs.Laws.{IsPlain, PathsAreTaken, BudgetsAreTaken, SeedsAreTaken, VerifyIsTaken, TourIsTaken, TourSeedsAreTaken, VerifierIsTaken}
 use Rattle.tspwords.proofs.Numbers.{in_unsigned}
 
 no_hyphen : (word : Text) → IsPlain word → strip_byte 45 word ≡ None
 no_hyphen [] plain = refl
 no_hyphen (x ∷ xs) plain = ap (λ b. cond b (Some xs) None) (ne_eqb x 45 plain)
 
-not_long : (word : Text) → IsPlain word → long_of word ≡ None
+pub not_long : (word : Text) → IsPlain word → long_of word ≡ None
 not_long word plain = rw (no_hyphen word plain) refl
 
-not_short : (word : Text) → IsPlain word → short_of word ≡ None
+pub not_short : (word : Text) → IsPlain word → short_of word ≡ None
 not_short word plain = rw (no_hyphen word plain) refl
 
-not_dashes : (word : Text) → IsPlain word → bytes_eq word (45 ∷ 45 ∷ []) ≡ false
+pub not_dashes : (word : Text) → IsPlain word → bytes_eq word (45 ∷ 45 ∷ []) ≡ false
 not_dashes [] plain = refl
 not_dashes (x ∷ xs) plain = rw (ne_eqb x 45 plain) refl
 
 -- the rows that are found
-abbrev given : Text → Text → Row
+abbrev pub given : Text → Text → Row
 given id word = record { id = id; values = word ∷ []; count = None; source = Some CommandLine; reading = reading.AsWritten }
 
 abbrev filled : Text → Text → Row
@@ -76,7 +76,7 @@ paths_taken name a b c pa pb pc =
     }
 
 -- a number does not begin with a hyphen
-number_is_plain : (most : ℕ) (word : Text) → IsUnsignedIn 0 most word → IsPlain word
+pub number_is_plain : (most : ℕ) (word : Text) → IsUnsignedIn 0 most word → IsPlain word
 number_is_plain most [] h e = absurd (omega arith)
 number_is_plain most (x ∷ xs) h e =
     let same : without_leading_plus (x ∷ xs) ≡ x ∷ xs = without_leading_plus_none (x ∷ xs) (λ p. absurd (omega arith)) in
@@ -137,37 +137,6 @@ seeds_taken name a b c d pa pb pc fits =
     let is = in_unsigned 0 most_seed d fits in
     let rows = seed_rows_are name a b c d pa pb pc pd in record {
       call = record { taken = seed_fault_free name a b c d pa pb pc pd is; named = named_seed name a b c d };
-      instance_is = rw rows refl;
-      proof_is = rw rows refl;
-      restart_is = rw rows refl;
-      budget_is = rw rows refl;
-      seed_is = rw rows refl;
-    }
-
--- `--budget N --seed S`
-both_fault_free : (name a b c d e : Text) → IsPlain a → IsPlain b → IsPlain c → IsPlain d → IsPlain e → is_unsigned_in 0 most_budget d ≡ true → is_unsigned_in 0 most_seed e ≡ true
-    → IsTaken (name ∷ codes "solve" ∷ a ∷ b ∷ c ∷ codes "--budget" ∷ d ∷ codes "--seed" ∷ e ∷ [])
-unfolding clap_on_literals
-both_fault_free name a b c d e pa pb pc pd pe is_d is_e =
-    rw (not_dashes a pa, not_long a pa, not_short a pa, not_dashes b pb, not_long b pb, not_short b pb, not_dashes c pc, not_long c pc, not_short c pc, not_dashes d pd, not_long d pd, not_short d pd, not_dashes e pe, not_long e pe, not_short e pe)
-    ?
-
-both_rows_are : (name a b c d e : Text) → IsPlain a → IsPlain b → IsPlain c → IsPlain d → IsPlain e
-    → rows_of_words (name ∷ codes "solve" ∷ a ∷ b ∷ c ∷ codes "--budget" ∷ d ∷ codes "--seed" ∷ e ∷ []) ≡ given (codes "instance") a ∷ given (codes "proof") b ∷ given (codes "restart") c ∷ given (codes "budget") d ∷ given (codes "seed") e ∷ []
-unfolding clap_on_literals
-both_rows_are name a b c d e pa pb pc pd pe =
-    rw (not_dashes a pa, not_long a pa, not_short a pa, not_dashes b pb, not_long b pb, not_short b pb, not_dashes c pc, not_long c pc, not_short c pc, not_dashes d pd, not_long d pd, not_short d pd, not_dashes e pe, not_long e pe, not_short e pe) refl
-
-named_both : (name a b c d e : Text) → command_word (name ∷ codes "solve" ∷ a ∷ b ∷ c ∷ codes "--budget" ∷ d ∷ codes "--seed" ∷ e ∷ []) ≡ codes "solve"
-unfolding clap_on_literals
-named_both name a b c d e = refl
-
-pub both_taken : BudgetsAndSeedsAreTaken
-both_taken name a b c d e pa pb pc fits_d fits_e =
-    let pd = number_is_plain most_budget d fits_d in
-    let pe = number_is_plain most_seed e fits_e in
-    let rows = both_rows_are name a b c d e pa pb pc pd pe in record {
-      call = record { taken = both_fault_free name a b c d e pa pb pc pd pe (in_unsigned 0 most_budget d fits_d) (in_unsigned 0 most_seed e fits_e); named = named_both name a b c d e };
       instance_is = rw rows refl;
       proof_is = rw rows refl;
       restart_is = rw rows refl;

@@ -29,7 +29,7 @@ use Rattle.tspwords.specs.declared.words.Solve.{Solve}
 use Rattle.tspwords.specs.declared.words.TourWords.{TourWords}
 use Rattle.tspwords.specs.declared.words.VerifyWords.{VerifyWords}
 use Rattle.tspwords.proofs.Numbers.{unsigned_in, number_taken}
-use Rattle.tspwords.proofs.Given.{Each, IsGood, IsPlainRule, ArePlain, IsFound, first_free, level_found}
+use Rattle.tspwords.proofs.Given.{Each, IsGood, ArePlain, IsFound, first_free, level_found}
 
 -- `solve` as the parser has it
 abbrev pub solve_built : Shape

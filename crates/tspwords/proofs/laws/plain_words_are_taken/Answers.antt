@@ -1,4 +1,5 @@
-use Rattle.tspwords.proofs.PlainWords.{paths_taken, budgets_taken, seeds_taken, both_taken, verify_taken, tour_taken, tour_seeds_taken, verifier_words_taken}
+use Rattle.tspwords.proofs.Options.{both_taken}
+use Rattle.tspwords.proofs.PlainWords.{paths_taken, budgets_taken, seeds_taken, verify_taken, tour_taken, tour_seeds_taken, verifier_words_taken}
 use Rattle.tspwords.proofs.laws.plain_words_are_taken.Goals as goal
 
 pub returns-clause-paths : goal.returns-clause-paths
