@@ -19,10 +19,10 @@ use Rattle.tspengine.specs.declared.statuses.Status.TheVariants as status
 use Rattle.verification.proofs.Tells.{both_to, both_then}
 
 -- a desk that was read whole
-abbrev read_told : List ℕ → Told → Told
+abbrev pub read_told : List ℕ → Told → Told
 read_told word t = record t { instance = []; instance_path = Some word }
 
-read_keeps : (names : Names) (t : Told) → KeepsDesk names t (read_told names.instance t)
+pub read_keeps : (names : Names) (t : Told) → KeepsDesk names t (read_told names.instance t)
 read_keeps names t = record { instance_path = inr refl; proof_path = inl refl; inlet_path = refl; inlet = refl; read = length t.instance; instance = sym (drop-length t.instance) }
 
 -- a fault of the slots, or want of memory, after the instance was read
@@ -44,7 +44,7 @@ front_told word count t = record t { instance = drop count t.instance; instance_
 front_keeps : (names : Names) (count : ℕ) (t : Told) (printed : List ℕ) → KeepsDesk names t (with_added outlet.Text printed (front_told names.instance count t))
 front_keeps names count t printed = record { instance_path = inr refl; proof_path = inl refl; inlet_path = refl; inlet = refl; read = count; instance = refl }
 
-nothing : (xs : List ℕ) → xs ≡ xs ++ []
+pub nothing : (xs : List ℕ) → xs ≡ xs ++ []
 nothing xs = sym (append-nil xs)
 
 refused_at : (Says : Status → Type 0) (names : Names) (slots : Option SlotsTold) (r : Refusal) (t u : Told) (is : RefusesInstance names.instance r t u)

@@ -3,3 +3,4 @@ mod Finishing
 mod Writing
 mod Ends
 mod Verifying
+mod Tours

@@ -23,7 +23,7 @@ use Rattle.tspengine.specs.declared.statuses.Status.TheVariants as status
 -- ---- statuses
 
 -- the status of the verifier that a status is
-checked_of : Status → VerifyStatus
+abbrev pub checked_of : Status → VerifyStatus
 checked_of status.Optimal = checked.NoMemory
 checked_of status.Verified = checked.Verified
 checked_of status.Toured = checked.NoMemory

@@ -1,6 +1,6 @@
-use Rattle.std.proofs.Common.{subst, map, string_bytes, inl, inr, refl}
-use Rattle.ports.specs.Outside.{BothTell}
-use Rattle.tspwords.specs.Program.{IsVerifyCall}
+use Rattle.std.proofs.Common.{◌≡◌, subst, sym, map, string_bytes, inl, inr, refl}
+use Rattle.ports.specs.Outside.{BothTell, Cause}
+use Rattle.tspwords.specs.Program.{IsTourCall, IsVerifyCall}
 use Rattle.tspwords.specs.Says.{Says}
 use Rattle.tspwords.specs.declared.words.Command.{Command}
 use Rattle.verification.specs.Runs as checks
@@ -8,6 +8,11 @@ use Rattle.verification.specs.Runs.{Paths, paths_in}
 use Rattle.verification.specs.declared.statuses.VerifyStatus.TheVariants as checked
 use Rattle.verification.proofs.Outcomes.{at_status, verified_run, refused_run, torn_run, keeps_run, run_judges, run_accepts}
 use Rattle.tspengine.specs.Names.{names_of, paths_of}
+use Rattle.tspengine.specs.Runs.{TourSays, EndsDesk, EndsTour}
+use Rattle.tspengine.specs.declared.statuses.Status.{Status}
+use Rattle.tspengine.specs.declared.statuses.Status.TheVariants as status
+use Rattle.tspengine.proofs.Tours.{toured_run, run_walks}
+use Rattle.tspengine.proofs.Tours as tours
 use Rattle.tspengine.proofs.Verifying.{from_verified, from_used, from_bad, from_refused, from_unwritten, never_optimal, never_stopped, never_solves, judged_status, verified_status, reads_cause, writes_cause, store_cause, one_call, same_paths, bad_run, silent_run, slots_run}
 use Rattle.tspengine.proofs.running.run.Goals as goal
 
@@ -217,3 +222,77 @@ returns-in-Ok-Verify-clause-accepted g c =
     let b = g.D.Desk.told c.verify.new.desk in
     let ends = subst (λ (p : Paths). BothTell (checks.EndsDesk p v) a b) (same_paths words c.in-Ok-Verify.words says) c.verify.ensures.desk in
     λ i l _ told calm still. verified_status s v is (run_accepts paths v i l a b _ _ _ _ ends c.verify.ensures.status told c.verify.ensures.reads c.verify.ensures.writes calm still)
+
+pub returns-in-Ok-Tour-clause-toured : goal.returns-in-Ok-Tour-clause-toured
+returns-in-Ok-Tour-clause-toured g c =
+    let words = map string_bytes c.args.words.now in
+    let s = c.merge-in-Ok-Tour.result in
+    let a = g.D.Desk.told c.args.desk.now in
+    let b = g.D.Desk.told c.tour_instance.new.desk in
+    let slots = g.L.Slots.told c.args.slots.now in
+    let says = subst (λ (x : Command). Says words x) c.in-Ok-Tour.field-0-is c.in-Ok-Tour.ensures.says in
+    let ends = subst (λ (x : Status). BothTell (EndsDesk TourSays (names_of words) slots x) a b) (sym c.merge-in-Ok-Tour.ensures) (c.tour_instance.ensures.desk (names_of words) slots says.instance) in
+    toured_run (names_of words) slots s a b ends
+
+pub returns-in-Ok-Tour-clause-bad_instance : goal.returns-in-Ok-Tour-clause-bad_instance
+returns-in-Ok-Tour-clause-bad_instance g c =
+    let words = map string_bytes c.args.words.now in
+    let s = c.merge-in-Ok-Tour.result in
+    let a = g.D.Desk.told c.args.desk.now in
+    let b = g.D.Desk.told c.tour_instance.new.desk in
+    let slots = g.L.Slots.told c.args.slots.now in
+    let says = subst (λ (x : Command). Says words x) c.in-Ok-Tour.field-0-is c.in-Ok-Tour.ensures.says in
+    let ends = subst (λ (x : Status). BothTell (EndsDesk TourSays (names_of words) slots x) a b) (sym c.merge-in-Ok-Tour.ensures) (c.tour_instance.ensures.desk (names_of words) slots says.instance) in
+    tours.refused_run (names_of words) slots s a b ends
+
+pub returns-in-Ok-Tour-clause-silent : goal.returns-in-Ok-Tour-clause-silent
+returns-in-Ok-Tour-clause-silent g c =
+    let words = map string_bytes c.args.words.now in
+    let s = c.merge-in-Ok-Tour.result in
+    let a = g.D.Desk.told c.args.desk.now in
+    let b = g.D.Desk.told c.tour_instance.new.desk in
+    let slots = g.L.Slots.told c.args.slots.now in
+    let says = subst (λ (x : Command). Says words x) c.in-Ok-Tour.field-0-is c.in-Ok-Tour.ensures.says in
+    let ends = subst (λ (x : Status). BothTell (EndsDesk TourSays (names_of words) slots x) a b) (sym c.merge-in-Ok-Tour.ensures) (c.tour_instance.ensures.desk (names_of words) slots says.instance) in
+    tours.silent_run (names_of words) slots s a b ends
+
+pub returns-in-Ok-Tour-clause-torn : goal.returns-in-Ok-Tour-clause-torn
+returns-in-Ok-Tour-clause-torn g c =
+    let words = map string_bytes c.args.words.now in
+    let s = c.merge-in-Ok-Tour.result in
+    let a = g.D.Desk.told c.args.desk.now in
+    let b = g.D.Desk.told c.tour_instance.new.desk in
+    let slots = g.L.Slots.told c.args.slots.now in
+    let says = subst (λ (x : Command). Says words x) c.in-Ok-Tour.field-0-is c.in-Ok-Tour.ensures.says in
+    let ends = subst (λ (x : Status). BothTell (EndsDesk TourSays (names_of words) slots x) a b) (sym c.merge-in-Ok-Tour.ensures) (c.tour_instance.ensures.desk (names_of words) slots says.instance) in
+    let call : IsTourCall words = record { taken = c.in-Ok-Tour.ensures.taken; named = says.named } in
+    λ e. inr (inl (call, tours.torn_run (names_of words) slots s a b ends e))
+
+pub returns-in-Ok-Tour-clause-desk : goal.returns-in-Ok-Tour-clause-desk
+returns-in-Ok-Tour-clause-desk g c =
+    let words = map string_bytes c.args.words.now in
+    let s = c.merge-in-Ok-Tour.result in
+    let a = g.D.Desk.told c.args.desk.now in
+    let b = g.D.Desk.told c.tour_instance.new.desk in
+    let slots = g.L.Slots.told c.args.slots.now in
+    let says = subst (λ (x : Command). Says words x) c.in-Ok-Tour.field-0-is c.in-Ok-Tour.ensures.says in
+    let ends = subst (λ (x : Status). BothTell (EndsDesk TourSays (names_of words) slots x) a b) (sym c.merge-in-Ok-Tour.ensures) (c.tour_instance.ensures.desk (names_of words) slots says.instance) in
+    λ _. tours.keeps_run (names_of words) slots s a b ends
+
+pub returns-in-Ok-Tour-clause-walks : goal.returns-in-Ok-Tour-clause-walks
+returns-in-Ok-Tour-clause-walks g c =
+    let words = map string_bytes c.args.words.now in
+    let s = c.merge-in-Ok-Tour.result in
+    let a = g.D.Desk.told c.args.desk.now in
+    let b = g.D.Desk.told c.tour_instance.new.desk in
+    let slots = g.L.Slots.told c.args.slots.now in
+    let says = subst (λ (x : Command). Says words x) c.in-Ok-Tour.field-0-is c.in-Ok-Tour.ensures.says in
+    let ends = subst (λ (x : Status). BothTell (EndsDesk TourSays (names_of words) slots x) a b) (sym c.merge-in-Ok-Tour.ensures) (c.tour_instance.ensures.desk (names_of words) slots says.instance) in
+    let r0 = g.D.Desk.read_faults c.args.desk.now in
+    let r1 = g.D.Desk.read_faults c.tour_instance.new.desk in
+    let w0 = g.D.Desk.write_faults c.args.desk.now in
+    let w1 = g.D.Desk.write_faults c.tour_instance.new.desk in
+    let which = subst EndsTour (sym c.merge-in-Ok-Tour.ensures) c.tour_instance.ensures.status in
+    let reads = subst (λ (x : Status). Cause (x ≡ status.ReadFault) r0 r1) (sym c.merge-in-Ok-Tour.ensures) c.tour_instance.ensures.reads in
+    let writes = subst (λ (x : Status). Cause (x ≡ status.WriteFault) w0 w1) (sym c.merge-in-Ok-Tour.ensures) c.tour_instance.ensures.writes in
+    λ i _ told calm still. run_walks (names_of words) slots s i a b r0 r1 w0 w1 ends which told reads writes calm still
