@@ -1,4 +1,4 @@
-//! `tspc`: the exact TSP solver on files. `tspc solve INSTANCE PROOF RESTART [--budget N]` writes the proof to the file PROOF, and
+//! `tspc`: the exact TSP solver on files. `tspc solve INSTANCE PROOF RESTART [--budget N] [--seed S]` writes the proof to the file PROOF, and
 //! keeps a body to go on from in the files `RESTART.0` and `RESTART.1`.
 #![tactic(auto)]
 

@@ -199,6 +199,105 @@ fn a_spent_budget_leaves_a_body(rt: HostRuntime) -> Result<(), Fail> {
     Ok(())
 }
 
+const SQUARE_TOUR: &[u8] =
+    b"NAME : tour\nTYPE : TOUR\nDIMENSION : 4\nTOUR_SECTION\n1\n2\n3\n4\n-1\nEOF\n";
+
+#[test]
+fn the_tour_of_a_square_is_printed(rt: HostRuntime) -> Result<(), Fail> {
+    let alloc = rt.alloc();
+    for line in [
+        "tspc tour a",
+        "tspc tour a --seed 0",
+        "tspc tour a --seed 18446744073709551615",
+    ] {
+        let ended = solved(alloc, line, SQUARE)?;
+        assert_eq!(rt; ended.status, Status::Toured);
+        assert_eq!(rt; ended.text(), SQUARE_TOUR);
+        assert_eq!(rt; ended.desk.proof(), b"".as_slice());
+        assert!(rt; ended.desk.proof_path().is_none());
+        assert_eq!(rt; ended.slots.entries().len(), 0);
+    }
+    let bad = solved(alloc, "tspc tour a", "")?;
+    assert_eq!(rt; bad.status, Status::BadInstance);
+    assert_eq!(rt; bad.text(), b"INSTANCE 13 0 1\n".as_slice());
+    Ok(())
+}
+
+#[test]
+fn a_failing_call_cuts_a_tour_short(rt: HostRuntime) -> Result<(), Fail> {
+    let alloc = rt.alloc();
+    for k in 1..SQUARE_TOUR.len() + 1 {
+        let bad = [k as u64];
+        let faults = Faults {
+            most_write: 1,
+            bad_writes: &bad,
+            ..NONE
+        };
+        let cut = run_with(alloc, "tspc tour a", SQUARE, &faults)?;
+        assert_eq!(rt; cut.status, Status::WriteFault);
+        assert_eq!(rt; cut.text().len(), k - 1);
+        assert!(rt; SQUARE_TOUR.starts_with(cut.text()));
+    }
+    let unread = run_with(
+        alloc,
+        "tspc tour a",
+        SQUARE,
+        &Faults {
+            bad_reads: &[1],
+            ..NONE
+        },
+    )?;
+    assert_eq!(rt; unread.status, Status::ReadFault);
+    assert_eq!(rt; unread.text(), b"".as_slice());
+    Ok(())
+}
+
+/// The text of so many random points.
+fn random_points(alloc: Global, count: u32) -> Result<String, AllocError> {
+    let mut state = 77;
+    let mut text = format!(in alloc;
+        "TYPE : TSP\nDIMENSION : {count}\nEDGE_WEIGHT_TYPE : EUC_2D\nNODE_COORD_SECTION\n"
+    )?;
+    for k in 0..count {
+        let number = u64::from(k) + 1;
+        let x = next(&mut state, 10_000);
+        let y = next(&mut state, 10_000);
+        text.push_str(&format!(in alloc; "{number} {x} {y}\n")?)?;
+    }
+    Ok(text)
+}
+
+#[test]
+fn a_seed_chooses_the_tour(rt: HostRuntime) -> Result<(), Fail> {
+    let alloc = rt.alloc();
+    let text = random_points(alloc, 300)?;
+    let first = solved(alloc, "tspc tour a", &text)?;
+    assert_eq!(rt; first.status, Status::Toured);
+    let named = solved(alloc, "tspc tour a --seed 1", &text)?;
+    assert_eq!(rt; named.text(), first.text());
+    let other = solved(alloc, "tspc tour a --seed 2", &text)?;
+    assert_eq!(rt; other.status, Status::Toured);
+    assert!(rt; other.text() != first.text());
+    Ok(())
+}
+
+/// Its cities in their order cross, and make a tour of length 48.
+const CROSSED: &str =
+    "TYPE : TSP\nDIMENSION : 4\nEDGE_WEIGHT_TYPE : EUC_2D\nNODE_COORD_SECTION\n1 0 0\n2 10 10\n3 0 10\n4 10 0\n";
+
+#[test]
+fn a_search_starts_with_a_good_tour(rt: HostRuntime) -> Result<(), Fail> {
+    let alloc = rt.alloc();
+    let ended = solved(alloc, "tspc solve a b c --seed 5 --budget 0", CROSSED)?;
+    assert_eq!(rt; ended.status, Status::Stopped);
+    assert_eq!(rt; ended.text(), b"STOPPED 40 1\n".as_slice());
+    assert_eq!(rt;
+        ended.slots.slot(0),
+        b"\x01\0\0\0\0\0\0\0\0\x2eTSPCERT 1\nN 4\nLENGTH 40\nTOUR 1 3 2 4\nCUTS 0\nO\n".as_slice()
+    );
+    Ok(())
+}
+
 /// The square's text with one line, from 1, in place of another.
 fn with_line(alloc: Global, number: usize, line: &str) -> Result<String, AllocError> {
     let mut text = format!(in alloc; "")?;
@@ -258,6 +357,11 @@ fn other_words_are_usage(rt: HostRuntime) -> Result<(), Fail> {
         "tspc solve a b c d",
         "tspc verify a",
         "tspc verify a b c",
+        "tspc tour",
+        "tspc tour a b",
+        "tspc tour a --seed 18446744073709551616",
+        "tspc tour a --budget 1",
+        "tspc solve a b c --seed -1",
     ] {
         let ended = solved(alloc, line, SQUARE)?;
         assert_eq!(rt; ended.status, Status::Usage);
@@ -461,6 +565,7 @@ fn statuses_have_their_codes(rt: HostRuntime) -> Result<(), Fail> {
     let codes = [
         (Status::Optimal, 0),
         (Status::Verified, 0),
+        (Status::Toured, 0),
         (Status::Usage, 2),
         (Status::BadInstance, 3),
         (Status::Refused, 4),
