@@ -42,9 +42,9 @@ parts_from x w s t stops f cities weights inside here others l = record {
   crossed = weights (has f.side.cities) ∙ ap pos l.crossed;
   least = λ other o a b.
       let h = l.least (has other) a (λ k hk st. ⊎_elim
-          (λ (e : k ≡ t). subst (λ v. has other v ≡ false) (sym e) b)
-          (λ (ne : k ≡ t → ⊥). let z = others k ne in absurd cc)
-          (cases_eq k t)) in
+      (λ (e : k ≡ t). subst (λ v. has other v ≡ false) (sym e) b)
+      (λ (ne : k ≡ t → ⊥). let z = others k ne in absurd cc)
+      (cases_eq k t)) in
       let e = weights (has other) in
       omega (arith, ints, h, e);
 }

@@ -18,9 +18,8 @@ mod route;
 mod rows;
 mod search;
 
-pub use network::Network;
-
 use cyc::{CitySet, Frac};
+pub use network::Network;
 use std::alloc::{AllocError, Global};
 
 /// What a greatest flow sends, in units, and the side that it ends at: a set of cities that is crossed by just as much.
@@ -54,3 +53,8 @@ fn stop_at(alloc: Global, n: u32, t: u32) -> Result<Vec<bool>, AllocError>
     stops[t as usize] = true;
     Ok(stops)
 }
+
+#[cfg(test)]
+mod plain;
+#[cfg(test)]
+mod tests;

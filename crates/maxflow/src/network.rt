@@ -4,9 +4,8 @@ ghost use Rattle.std.specs.List.{All};
 ghost use Rattle.maxflow.specs.Crossings.{crossing_weight, crossing, IsPair};
 ghost use Rattle.maxflow.specs.Flows.{is_stop, IsBelowAll, IsLeastFlow};
 
-use crate::LeastSide;
-use crate::route;
 use crate::rows::Rows;
+use crate::{LeastSide, route};
 use cyc::{Entry, Frac};
 use std::alloc::{AllocError, Global};
 use std::marker::Model;

@@ -199,13 +199,7 @@ impl Search {
     }
 
     /// Goes on from the city `from` along the rows, breadth first, up to a stop.
-    fn spread(
-        &mut self,
-        residual: &Residual,
-        rows: &Rows,
-        from: u32,
-        stops: &[bool],
-    ) -> Option<u32>
+    fn spread(&mut self, residual: &Residual, rows: &Rows, from: u32, stops: &[bool]) -> Option<u32>
         requires tree { IsTree residual.now.edges.items self.old }
         requires size { residual.now.n ≡ self.old.n }
         ensures same { (self.new.n ≡ self.old.n) × (self.new.start ≡ self.old.start) }

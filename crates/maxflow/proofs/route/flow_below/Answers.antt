@@ -60,11 +60,11 @@ returns c =
     let rank = c.reach.new.self.rank.items in
     let side = c.in_ok-side.ensures in (
       ends_least (record { n = c.args.n; entries = c.args.pairs.now }) c.loop-t.residual.edges.items c.args.s c.args.stops.now (is_met rank)
-      (record { value = c.loop-t.value; side = c.in_ok-side.side }) v.balance
-      (met_at rank c.reach.new.self.start c.args.s (c.in_default.ensures.same.1 ∙ v.start) c.in_default.ensures.tree.start_met)
-      (λ k h t. unmet_at rank k (found.0 k (omega arith) t)) found.1
-      (side.cities ∙ c.in_default.ensures.same.0 ∙ v.size)
-      (subst (λ n. IsSet n c.in_ok-side.side.cities) (c.in_default.ensures.same.0 ∙ v.size) side.set)
-      side.met,
+          (record { value = c.loop-t.value; side = c.in_ok-side.side }) v.balance
+          (met_at rank c.reach.new.self.start c.args.s (c.in_default.ensures.same.1 ∙ v.start) c.in_default.ensures.tree.start_met)
+          (λ k h t. unmet_at rank k (found.0 k (omega arith) t)) found.1
+          (side.cities ∙ c.in_default.ensures.same.0 ∙ v.size)
+          (subst (λ n. IsSet n c.in_ok-side.side.cities) (c.in_default.ensures.same.0 ∙ v.size) side.set)
+          side.met,
       c.if-value-limit-2.false,
     )

@@ -16,11 +16,11 @@ loop-k-preserved c =
     let old = c.loop-k.cities.items in
     let k = c.loop-k.k in
     elim c.if-index-gt0.branch [
-      then-index-gt0+in_ok-push w ↦
-        subst (λ xs. AreThoseBelow (k + 1) (is_met rank) xs.items) (sym w.cities-is)
-        (subst (λ xs. AreThoseBelow (k + 1) (is_met rank) xs) (sym w.in_ok-push.ensures.items)
-        (those_push k (is_met rank) old c.loop-k.invariant (lt-ltb 0 (get_or rank k 0) (let l = w.if-index-gt0.true in omega (arith, is, l)))))
-    | else-index-gt0 w ↦
-        subst (λ xs. AreThoseBelow (k + 1) (is_met rank) xs.items) (sym w.cities-is)
-        (those_skip k (is_met rank) old c.loop-k.invariant (le-ltb 0 (get_or rank k 0) (let l = w.if-index-gt0.false in omega (arith, is, l))))
+      | then-index-gt0+in_ok-push w ↦
+          subst (λ xs. AreThoseBelow (k + 1) (is_met rank) xs.items) (sym w.cities-is)
+          (subst (λ xs. AreThoseBelow (k + 1) (is_met rank) xs) (sym w.in_ok-push.ensures.items)
+          (those_push k (is_met rank) old c.loop-k.invariant (lt-ltb 0 (get_or rank k 0) (let l = w.if-index-gt0.true in omega (arith, is, l)))))
+      | else-index-gt0 w ↦
+          subst (λ xs. AreThoseBelow (k + 1) (is_met rank) xs.items) (sym w.cities-is)
+          (those_skip k (is_met rank) old c.loop-k.invariant (le-ltb 0 (get_or rank k 0) (let l = w.if-index-gt0.false in omega (arith, is, l))))
     ]
