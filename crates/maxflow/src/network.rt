@@ -51,6 +51,18 @@ impl Network {
         self.n
     }
 
+    /// Adds to each city's weight the value of its pair with `city`. Nothing is proved of the sums, which may wrap.
+    pub fn add_values(&self, city: u32, weights: &mut [u64]) {
+        for place in self.rows.row(city) {
+            if let Some(pair) = self.pairs.get(*place) {
+                let other = if pair.u == city { pair.v } else { pair.u };
+                if let Some(weight) = weights.get_mut(other as usize) {
+                    *weight = weight.wrapping_add(u64::from(pair.x));
+                }
+            }
+        }
+    }
+
     /// The least crossing weight of the sets that hold `s` and no stop, and such a set, where it is below `limit`. The flow
     /// is given up once it reaches `limit`.
     pub fn flow_below(
