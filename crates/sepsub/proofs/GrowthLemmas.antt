@@ -1,7 +1,7 @@
 -- One stop more.
-use Rattle.std.proofs.Common.{◌≡◌, ℕ, zero, suc, ◌<◌, ◌≤◌, ◌⊎◌, inl, inr, Bool, true, false, List, refl, sym, ◌∙◌, subst, arith, ⊎_elim}
+use Rattle.std.proofs.Common.{◌≡◌, ℕ, zero, suc, ◌<◌, ◌≤◌, ◌⊎◌, inl, inr, Bool, true, false, List, [], ◌∷◌, length, refl, sym, ◌∙◌, subst, arith, ⊎_elim}
 use Rattle.std.proofs.Math.ListN.{set}
-use Rattle.std.proofs.lemmas.List.{get_or-set_other}
+use Rattle.std.proofs.lemmas.List.{get_or-set_other, length-append}
 use Rattle.std.specs.List.{All}
 use Rattle.std.proofs.lemmas.List.Elements.{All-push}
 use Rattle.std.proofs.lemmas.Bool.{cases_Bool, cases_eq, cases_lt, lt-ltb, le-ltb}
@@ -13,6 +13,7 @@ use Rattle.maxflow.specs.Crossings.{crossing}
 use Rattle.maxflow.specs.Flows.{is_stop, LacksStops, IsBelowAll, IsLeastFlow}
 use Rattle.sepsub.specs.declared.growth.Found.{Found}
 use Rattle.sepsub.specs.Growth.{IsAway, IsLight, IsLeastWith, IsFound, IsFoundOfAll, with_light}
+use Rattle.sepsub.proofs.SetLemmas.{proper_from}
 use Rattle.sepsub.proofs.WeightLemmas.{crossing_all}
 
 clash : (b : Bool) → b ≡ true → b ≡ false → ⊥
@@ -75,7 +76,8 @@ side_is_away w s stops f some home l = record {
 
 pub side_is_light : (w : Values) (s : ℕ) (stops : List Bool) (f : LeastSide) → 0 < w.n → is_stop stops 0 ≡ true → IsLeastFlow w s stops f → f.value < 2096128 → IsLight w f.side
 side_is_light w s stops f some home l h = record {
-  side = side_is_away w s stops f some home l;
+  cities = l.cities;
+  proper = proper_from w.n s 0 f.side.cities l.set l.holds some (l.lacks 0 some home);
   light = subst (λ v. v < 2096128) (sym l.crossed) h;
 }
 
@@ -87,6 +89,15 @@ with_light_are w s stops f sets some home l a = ⊎_elim
     (λ (u : 2096128 ≤ f.value). rw (le-ltb f.value 2096128 u) a)
     (cases_lt f.value 2096128)
 
+pub with_light_grows : (sets : List Members) (f : LeastSide) → 0 < length sets → 0 < length (with_light sets f)
+with_light_grows sets f h = ⊎_elim
+    (λ (t : f.value < 2096128). rw (lt-ltb f.value 2096128 t) (omega (arith, length-append sets (f.side ∷ []))))
+    (λ (u : 2096128 ≤ f.value). rw (le-ltb f.value 2096128 u) h)
+    (cases_lt f.value 2096128)
+
+pub with_light_some : (sets : List Members) (f : LeastSide) → f.value < 2096128 → 0 < length (with_light sets f)
+with_light_some sets f t = rw (lt-ltb f.value 2096128 t) (omega (arith, length-append sets (f.side ∷ [])))
+
 -- where each city is a stop, the best so far is the best of all
 pub found_of_all : (w : Values) (stops : List Bool) (f : Found) → ((k : ℕ) → k < w.n → is_stop stops k ≡ true) → IsFound w stops f → IsFoundOfAll w f
 found_of_all w stops f all found = record {
@@ -94,6 +105,7 @@ found_of_all w stops f all found = record {
   crossed = found.crossed;
   least = λ p k h t z u. found.least p k h (all k h) z u;
   sets = found.sets;
+  some = found.some;
 }
 
 -- a side with no stop at all is crossed by nothing

@@ -61,12 +61,12 @@ module _ (x w : Values) (cities : w.n ≡ x.n) (weights : (p : ℕ → Bool) →
             (cases_Bool (has other 0));
       }
 
-  light_is_violated : 0 < w.n → (s : Members) → IsLight w s → IsViolated x s
-  light_is_violated some s l = record {
-    cities = l.side.cities ∙ cities;
-    proper = proper_from x.n l.side.member 0 s.cities (subst (λ n. IsSet n s.cities) cities l.side.set) l.side.holds (omega arith) l.side.away;
+  light_is_violated : (s : Members) → IsLight w s → IsViolated x s
+  light_is_violated s l = record {
+    cities = l.cities ∙ cities;
+    proper = subst (λ n. IsProper n s.cities) cities l.proper;
     light = let e = weights (has s.cities) in let h = l.light in omega (arith, ints, e, h);
   }
 
-  pub all_violated : 0 < w.n → (sets : List Members) → All (IsLight w) sets → All (IsViolated x) sets
-  all_violated some sets a = All-weaker (IsLight w) (IsViolated x) (light_is_violated some) sets a
+  pub all_violated : (sets : List Members) → All (IsLight w) sets → All (IsViolated x) sets
+  all_violated sets a = All-weaker (IsLight w) (IsViolated x) light_is_violated sets a

@@ -1,7 +1,7 @@
 //! The components of the pairs of positive value.
 ghost use Rattle.std.specs.Prelude.{◌≡◌, ◌<◌, ◌≤◌, true, false, IfOk, IfSome, length};
 ghost use Rattle.std.specs.List.{All};
-ghost use Rattle.tspdef.specs.Sets.{has, IsSet};
+ghost use Rattle.tspdef.specs.Sets.{has, IsSet, IsProper};
 ghost use Rattle.maxflow.specs.Crossings.{crossing};
 ghost use Rattle.maxflow.specs.Flows.{is_stop};
 ghost use Rattle.sepsub.specs.Growth.{IsLight};
@@ -23,8 +23,27 @@ pub fn home(alloc: Global, network: &Network) -> Result<CitySet, AllocError>
     Ok(component.side)
 }
 
-/// The other components.
-pub fn others(alloc: Global, network: &Network, home: &CitySet) -> Result<Vec<CitySet>, AllocError>
+/// All components but one, where that of city 0 is not all cities: what leaves the one is what leaves the others.
+pub fn all_but_one(
+    alloc: Global,
+    network: &Network,
+    home: &CitySet,
+) -> Result<Vec<CitySet>, AllocError>
+    requires cities { home.now.n ≡ network.now.n }
+    requires proper { IsProper home.now.n home.now.cities }
+    requires holds { has home.now.cities 0 ≡ true }
+    requires apart { crossing network.now.entries (has home.now.cities) ≡ 0 }
+    ensures light { IfOk result (λ v. All (IsLight network.now) v.items) }
+    ensures some { IfOk result (λ v. 0 < length v.items) }
+{
+    let mut sets = others(alloc, network, home)?;
+    let _left_out = sets.pop();
+    sets.push(home.copy(alloc)?)?;
+    Ok(sets)
+}
+
+/// The components but that of city 0.
+fn others(alloc: Global, network: &Network, home: &CitySet) -> Result<Vec<CitySet>, AllocError>
     requires cities { home.now.n ≡ network.now.n }
     requires holds { has home.now.cities 0 ≡ true }
     ensures { IfOk result (λ v. All (IsLight network.now) v.items) }

@@ -45,16 +45,17 @@ pub fn least_set(alloc: Global, x: &Frac) -> Result<LeastSet, AllocError>
 
 /// The least set, and light sets, of which there are some wherever the least set is light.
 ///
-/// Where the pairs of positive value do not join all cities, the sets are their components but that of city 0, which is a
+/// Where the pairs of positive value do not join all cities, the sets are their components but one, and that of city 0 is a
 /// least set. Otherwise flows run into a growing set of cities (`growth`), and each side below [`LIGHT`] is kept.
 pub fn sweep(alloc: Global, x: &Frac) -> Result<Swept, AllocError>
     ensures least { IfOk result (λ s. IsLeastSet x.now s.least) }
     ensures sets { IfOk result (λ s. All (IsViolated x.now) s.sets.items) }
+    ensures some { IfOk result (λ s. s.least.weight < LIGHT → 0 < length s.sets.items) }
 {
     let network = Network::of(alloc, x)?;
     let home = components::home(alloc, &network)?;
     if home.is_proper() {
-        let sets = components::others(alloc, &network, &home)?;
+        let sets = components::all_but_one(alloc, &network, &home)?;
         let least = LeastSet {
             weight: 0,
             set: home,

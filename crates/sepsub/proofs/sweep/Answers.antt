@@ -16,9 +16,7 @@ returns-then-is_proper-clause-least c =
 
 pub returns-then-is_proper-clause-sets : goal.returns-then-is_proper-clause-sets
 returns-then-is_proper-clause-sets c =
-    all_violated c.args.x.now c.in_ok-network.network c.in_ok-network.ensures.cities c.in_ok-network.ensures.weights
-    (some_of c.network.inside.n c.in_ok-network.network.n (ap (λ (v : Values). v.n) c.network.view_is) c.network.invariant.many)
-    c.in_ok-sets.sets.items c.in_ok-sets.ensures
+    all_violated c.args.x.now c.in_ok-network.network c.in_ok-network.ensures.cities c.in_ok-network.ensures.weights c.in_ok-sets.sets.items c.in_ok-sets.ensures.light
 
 pub returns-clause-least : goal.returns-clause-least
 returns-clause-least c =
@@ -31,6 +29,4 @@ returns-clause-least c =
 
 pub returns-clause-sets : goal.returns-clause-sets
 returns-clause-sets c =
-    all_violated c.args.x.now c.in_ok-network.network c.in_ok-network.ensures.cities c.in_ok-network.ensures.weights
-    (some_of c.network.inside.n c.in_ok-network.network.n (ap (λ (v : Values). v.n) c.network.view_is) c.network.invariant.many)
-    c.in_ok-found.found.sets.items c.in_ok-found.ensures.sets
+    all_violated c.args.x.now c.in_ok-network.network c.in_ok-network.ensures.cities c.in_ok-network.ensures.weights c.in_ok-found.found.sets.items c.in_ok-found.ensures.sets

@@ -1,9 +1,9 @@
-use Rattle.std.proofs.Common.{◌<◌, List, sym, subst, arith}
+use Rattle.std.proofs.Common.{◌<◌, List, length, sym, subst, arith}
 use Rattle.std.specs.List.{All}
 use Rattle.std.proofs.lemmas.List.Elements.{All-nil}
 use Rattle.cyc.specs.CitySet.{Members}
 use Rattle.sepsub.specs.Growth.{IsLight}
-use Rattle.sepsub.proofs.GrowthLemmas.{least_more, least_at_first, side_is_away, with_light_are}
+use Rattle.sepsub.proofs.GrowthLemmas.{least_more, least_at_first, side_is_away, with_light_are, with_light_some}
 use Rattle.sepsub.proofs.growth.first_found.Goals as goal
 
 pub returns : goal.returns
@@ -19,4 +19,5 @@ returns c =
       crossed = l.crossed;
       least = least_more w 1 stops best.value best.value best.value (least_at_first w stops best.value c.requires.others) l.least (omega arith) (omega arith);
       sets = subst (λ (v : List Members). All (IsLight w) v) (sym c.in_ok-sets.ensures) (with_light_are w 1 stops best c.new.result.items some c.requires.home l none);
+      some = λ h. subst (λ (v : List Members). 0 < length v) (sym c.in_ok-sets.ensures) (with_light_some c.new.result.items best h);
     }

@@ -1,8 +1,8 @@
-use Rattle.std.proofs.Common.{◌≤◌, ◌<◌, List, sym, subst, arith}
+use Rattle.std.proofs.Common.{◌≤◌, ◌<◌, List, length, sym, subst, arith}
 use Rattle.std.specs.List.{All}
 use Rattle.cyc.specs.CitySet.{Members}
 use Rattle.sepsub.specs.Growth.{IsLight}
-use Rattle.sepsub.proofs.GrowthLemmas.{least_more, side_is_away, with_light_are}
+use Rattle.sepsub.proofs.GrowthLemmas.{least_more, side_is_away, with_light_are, with_light_grows, with_light_some}
 use Rattle.sepsub.proofs.growth.next_found.Goals as goal
 
 pub returns-then-side-found : goal.returns-then-side-found
@@ -19,6 +19,7 @@ returns-then-side-found c =
       crossed = l.crossed;
       least = least_more w c.args.t stops c.args.found.best.value side.value side.value found.least l.least less (omega arith);
       sets = subst (λ (v : List Members). All (IsLight w) v) (sym c.in_ok-sets-in-Some.ensures) (with_light_are w c.args.t stops side c.args.found.sets.items some c.requires.home l found.sets);
+      some = λ h. subst (λ (v : List Members). 0 < length v) (sym c.in_ok-sets-in-Some.ensures) (with_light_some c.args.found.sets.items side h);
     }
 
 pub returns-else-side-found : goal.returns-else-side-found
@@ -35,6 +36,7 @@ returns-else-side-found c =
       crossed = found.crossed;
       least = least_more w c.args.t stops c.args.found.best.value side.value c.args.found.best.value found.least l.least (omega arith) less;
       sets = subst (λ (v : List Members). All (IsLight w) v) (sym c.in_ok-sets-in-Some.ensures) (with_light_are w c.args.t stops side c.args.found.sets.items some c.requires.home l found.sets);
+      some = λ h. subst (λ (v : List Members). 0 < length v) (sym c.in_ok-sets-in-Some.ensures) (with_light_grows c.args.found.sets.items side (found.some h));
     }
 
 pub returns-in-None : goal.returns-in-None
@@ -49,4 +51,5 @@ returns-in-None c =
       crossed = found.crossed;
       least = least_more w c.args.t stops c.args.found.best.value c.max.result c.args.found.best.value found.least below (omega arith) less;
       sets = found.sets;
+      some = found.some;
     }
