@@ -1,0 +1,5 @@
+pub mod SearchLemmas
+pub mod RoomLemmas
+pub mod CrossingLemmas
+pub mod SideLemmas
+pub mod FlowLemmas

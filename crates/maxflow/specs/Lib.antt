@@ -1,0 +1,5 @@
+pub mod Crossings
+pub mod Flows
+pub mod Edges
+pub mod Searches
+pub mod NetworkInside

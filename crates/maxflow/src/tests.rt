@@ -1,0 +1,114 @@
+use super::*;
+use crate::plain::{bits, crossing, drawn, holds, least, next};
+use cyc::Entry;
+use std::test::Fail;
+
+/// Three cities, of which the pairs 0 1, 0 2 and 1 2 have 3, 1 and 2 units.
+fn triangle(alloc: Global) -> Result<Frac, Fail> {
+    let entries = vec![in alloc;
+        Entry { u: 0, v: 1, x: 3 },
+        Entry { u: 0, v: 2, x: 1 },
+        Entry { u: 1, v: 2, x: 2 },
+    ]?;
+    Ok(Frac::new(alloc, 3, entries)?)
+}
+
+#[test]
+fn a_triangle_is_parted(rt: HostRuntime) -> Result<(), Fail> {
+    let x = triangle(rt.alloc())?;
+    assert_eq!(rt; x.n(), 3);
+    let parted = flow(rt.alloc(), &x, 0, 2)?;
+    assert_eq!(rt; parted.value, 3);
+    assert_eq!(rt; parted.side.cities(), [0, 1].as_slice());
+    let back = flow(rt.alloc(), &x, 2, 0)?;
+    assert_eq!(rt; back.value, 3);
+    assert_eq!(rt; back.side.cities(), [2].as_slice());
+    Ok(())
+}
+
+#[test]
+fn values_of_no_pair_part_for_nothing(rt: HostRuntime) -> Result<(), Fail> {
+    let x = Frac::new(rt.alloc(), 4, Vec::new(rt.alloc()))?;
+    assert_eq!(rt; x.n(), 4);
+    let parted = flow(rt.alloc(), &x, 3, 1)?;
+    assert_eq!(rt; parted.value, 0);
+    assert_eq!(rt; parted.side.cities(), [3].as_slice());
+    Ok(())
+}
+
+/// Values as large as they may be, between all pairs of many cities.
+#[test]
+fn the_largest_values_are_added_up(rt: HostRuntime) -> Result<(), Fail> {
+    let mut entries = Vec::new(rt.alloc());
+    for u in 0..100 {
+        for v in u + 1..100 {
+            entries.push(Entry {
+                u,
+                v,
+                x: 0x4000_0000,
+            })?;
+        }
+    }
+    let x = Frac::new(rt.alloc(), 100, entries)?;
+    assert_eq!(rt; x.n(), 100);
+    let parted = flow(rt.alloc(), &x, 17, 99)?;
+    assert_eq!(rt; parted.value, 99 * 0x4000_0000);
+    Ok(())
+}
+
+#[test]
+fn flows_end_at_the_least_of_all_sets(rt: HostRuntime) -> Result<(), Fail> {
+    for number in 0..500u64 {
+        let x = drawn(rt.alloc(), number)?;
+        let n = x.n();
+        let s = (next(number) >> 40) as u32 % n;
+        let t = (s + 1 + (next(number) >> 50) as u32 % (n - 1)) % n;
+        assert!(rt; s != t);
+        let parted = flow(rt.alloc(), &x, s, t)?;
+        let side = bits(&parted.side);
+        assert!(rt; holds(side, s) && !holds(side, t), "at {number}");
+        assert_eq!(rt; parted.value, crossing(&x, side), "at {number}");
+        assert_eq!(rt;
+            parted.value,
+            least(
+                &x,
+                1u32.checked_shl(s).unwrap_or(0),
+                1u32.checked_shl(t).unwrap_or(0)
+            ),
+            "at {number}"
+        );
+    }
+    Ok(())
+}
+
+#[test]
+fn flows_to_several_stops_keep_to_a_limit(rt: HostRuntime) -> Result<(), Fail> {
+    for number in 0..200u64 {
+        let x = drawn(rt.alloc(), number)?;
+        let network = Network::of(rt.alloc(), &x)?;
+        let n = network.n();
+        assert_eq!(rt; x.n(), n);
+        let marks = (next(number) >> 33) as u32;
+        let mut stops = Vec::new(rt.alloc());
+        for city in 0..n {
+            stops.push(city > 0 && holds(marks, city))?;
+        }
+        assert_eq!(rt; stops.len(), n as usize);
+        assert!(rt; !stops[0]);
+        let all = least(
+            &x,
+            1,
+            marks & 0x7fe & 1u32.checked_shl(n).unwrap_or(0).wrapping_sub(1),
+        );
+        let side = network.flow(rt.alloc(), 0, &stops)?;
+        assert_eq!(rt; side.value, all, "at {number}");
+        assert_eq!(rt; crossing(&x, bits(&side.side)), all, "at {number}");
+        assert!(rt;
+            network.flow_below(rt.alloc(), 0, &stops, all)?.is_none(),
+            "at {number}"
+        );
+        let again = network.flow_below(rt.alloc(), 0, &stops, all + 1)?;
+        assert_eq!(rt; again.map(|side| side.value), Some(all), "at {number}");
+    }
+    Ok(())
+}

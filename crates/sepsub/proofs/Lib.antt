@@ -1,0 +1,4 @@
+pub mod SetLemmas
+pub mod WeightLemmas
+pub mod GrowthLemmas
+pub mod LeastLemmas

@@ -1,0 +1,32 @@
+use Rattle.std.proofs.Common.{◌≡◌, ◌<◌, ◌≤◌, ℕ, ap, refl, subst, arith}
+use Rattle.tspdef.specs.Sets.{IsProper}
+use Rattle.cyc.specs.Frac.{Values}
+use Rattle.sepsub.proofs.LeastLemmas.{home_is_least, turned_is_least, all_violated}
+use Rattle.sepsub.proofs.sweep.Goals as goal
+
+some_of : (n m : ℕ) → n ≡ m → 3 ≤ n → 0 < m
+some_of n m e h = omega arith
+
+pub returns-then-is_proper-clause-least : goal.returns-then-is_proper-clause-least
+returns-then-is_proper-clause-least c =
+    let home = c.in_ok-home.home in
+    let e = c.in_ok-home.ensures in
+    home_is_least c.args.x.now c.in_ok-network.network c.in_ok-network.ensures.cities c.in_ok-network.ensures.weights (record { weight = 0; set = home }) refl
+    e.cities (subst (λ n. IsProper n home.cities) e.cities (c.is_proper.ensures.0 c.if-is_proper.true)) e.holds e.apart
+
+pub returns-then-is_proper-clause-sets : goal.returns-then-is_proper-clause-sets
+returns-then-is_proper-clause-sets c =
+    all_violated c.args.x.now c.in_ok-network.network c.in_ok-network.ensures.cities c.in_ok-network.ensures.weights c.in_ok-sets.sets.items c.in_ok-sets.ensures.light
+
+pub returns-clause-least : goal.returns-clause-least
+returns-clause-least c =
+    let found = c.in_ok-found.found in
+    let e = c.in_ok-set.ensures in
+    turned_is_least c.args.x.now c.in_ok-network.network c.in_ok-network.ensures.cities c.in_ok-network.ensures.weights found
+    (record { weight = found.best.value; set = c.in_ok-set.set })
+    (some_of c.network.inside.n c.in_ok-network.network.n (ap (λ (v : Values). v.n) c.network.view_is) c.network.invariant.many)
+    c.in_ok-found.ensures refl e.cities e.set e.others
+
+pub returns-clause-sets : goal.returns-clause-sets
+returns-clause-sets c =
+    all_violated c.args.x.now c.in_ok-network.network c.in_ok-network.ensures.cities c.in_ok-network.ensures.weights c.in_ok-found.found.sets.items c.in_ok-found.ensures.sets

@@ -1,0 +1,2 @@
+pub mod LeastSets
+pub mod Growth
