@@ -1,5 +1,5 @@
 -- The nearest-neighbour walk visits as many cities as there are.
-use Rattle.std.proofs.Common.{◌≡◌, ℕ, zero, suc, ◌+◌, ◌-◌, ◌≤◌, List, [], ◌∷◌, length, refl, ap, ◌∙◌, arith}
+use Rattle.std.proofs.Common.{◌≡◌, ℕ, zero, suc, ◌-◌, ◌≤◌, List, length, refl, ap, ◌∙◌, arith}
 use Rattle.tspdef.specs.Instances.{Instance, dist}
 use Rattle.neigh.specs.Walk.{nearest_in, without, walk_on, nearest_walk}
 

@@ -1,6 +1,5 @@
-use Rattle.std.proofs.Common.{◌≡◌, ℕ, [], length, sym, ap, subst, ◌∙◌, arith}
+use Rattle.std.proofs.Common.{ℕ, [], sym, ap, subst, ◌∙◌}
 use Rattle.tspdef.specs.Tours.{IsTour}
-use Rattle.tspdef.specs.Instances.{length_in}
 use Rattle.tspdef.specs.Trees.{IsSoundFor}
 use Rattle.treebook.specs.Tree.{Table}
 use Rattle.treebook.specs.Tables.{tree_of}
