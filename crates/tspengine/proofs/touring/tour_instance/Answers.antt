@@ -1,4 +1,4 @@
-use Rattle.std.proofs.Common.{List, ℕ, subst, sym, refl, inl, inr, ◌∙◌}
+use Rattle.std.proofs.Common.{List, ℕ, subst, sym, refl, inr, ◌∙◌}
 use Rattle.ports.specs.Outside.{BothTell}
 use Rattle.verification.specs.declared.reading.Reading.{Reading}
 use Rattle.verification.specs.Transfers.{ReadsInstance, RefusesInstance}
