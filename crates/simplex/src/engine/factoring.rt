@@ -193,7 +193,9 @@ impl Factoring {
             if count_at(&self.line_of, entry.row) != NONE {
                 self.factors.upper.push(entry.row, entry.coef)?;
             } else if entry.row != row {
-                self.factors.lower.push(entry.row, div(entry.coef, pivot.coef))?;
+                self.factors
+                    .lower
+                    .push(entry.row, div(entry.coef, pivot.coef))?;
                 if lessen(&mut self.counts, entry.row) == 1 {
                     self.stack.push(entry.row)?;
                 }
@@ -223,7 +225,8 @@ impl Factoring {
         }
         let first = self.factors.inner.len();
         let widths = &self.widths;
-        self.stack.sort_unstable_by_key(|line| count_at(widths, *line));
+        self.stack
+            .sort_unstable_by_key(|line| count_at(widths, *line));
         for place in 0..self.stack.len() {
             let line = self.stack.get(place).copied().unwrap_or(NONE);
             self.lay_out(line)?;

@@ -111,7 +111,8 @@ impl Factors {
             }
             place = place.wrapping_add(1);
         }
-        self.changed.close((self.changes.len() & 0xffff_ffff) as u32);
+        self.changed
+            .close((self.changes.len() & 0xffff_ffff) as u32);
         self.changes.push(Change {
             line,
             back: div(ONE, at(column, line)),

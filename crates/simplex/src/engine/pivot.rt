@@ -237,7 +237,7 @@ impl Engine {
     }
 
     /// Puts a variable into a state, with its reduced cost.
-    pub fn put(&mut self, head: Head, state: State, reduced: i64) {
+    pub(super) fn put(&mut self, head: Head, state: State, reduced: i64) {
         match head {
             Head::Column(j) => {
                 if let (Some(pair), Some(rate)) = (

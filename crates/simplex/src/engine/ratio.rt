@@ -119,7 +119,7 @@ impl Engine {
     }
 
     /// The variable that enters for a line with a miss, and in `flips` the columns that change bounds before it.
-    pub fn entering(&mut self, miss: i64) -> Result<Option<Head>, AllocError> {
+    pub(super) fn entering(&mut self, miss: i64) -> Result<Option<Head>, AllocError> {
         self.breaks.clear();
         self.flips.clear();
         self.list_columns(miss < 0)?;
