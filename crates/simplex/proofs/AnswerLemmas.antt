@@ -1,6 +1,6 @@
 -- What is said of an answer, from its parts.
-use Rattle.std.proofs.Common.{◌≡◌, ◌+◌, ◌<◌, ◌≤◌, ℕ, Bool, true, false, List, ◌++◌, length, map, take, drop, ℤ, pos, Option, Some, None, sym, ap, subst, ◌∙◌, arith, IsTrue, ◌↔◌}
-use Rattle.std.proofs.lemmas.List.{take_all, drop_all, append-nil, take-append-le, length-map}
+use Rattle.std.proofs.Common.{◌≡◌, ◌≤◌, ℕ, Bool, false, List, ◌++◌, length, map, take, drop, ℤ, pos, Option, sym, ap, subst, ◌∙◌, arith, IsTrue, ◌↔◌}
+use Rattle.std.proofs.lemmas.List.{take_all, drop_all, append-nil, take-append-le, length-append, length-map}
 use Rattle.std.proofs.lemmas.Bool.{false≢true}
 use Rattle.cyc.specs.declared.frac.Entry.{Entry}
 use Rattle.cyc.specs.Frac.{Values, value_of}
@@ -11,9 +11,10 @@ use Rattle.lpcheck.specs.Cells.{cells_of, table_of}
 use Rattle.lpcheck.specs.declared.cells.Cell.{Cell}
 use Rattle.lpcheck.specs.declared.row.Row.{Row}
 use Rattle.lpcheck.specs.declared.column.Column.{Column}
-use Rattle.simplex.specs.Columns.{blank, unvalued, is_col, values_at}
+use Rattle.simplex.specs.Columns.{Pairs, blank, unvalued, values_at}
 use Rattle.simplex.specs.Lp.{AreOf, IsSolved, IsRough, IsAnswer}
-use Rattle.simplex.specs.LpInside.{IsNewest}
+use Rattle.simplex.specs.LpInside.{IsNewest, IsKept}
+use Rattle.simplex.specs.declared.lp.Lp.TheInside.{Inside}
 use Rattle.simplex.specs.declared.answer.LpAnswer.{LpAnswer}
 use Rattle.simplex.proofs.ColumnLemmas.{off_is}
 
@@ -81,3 +82,20 @@ pub table_whole : (m : ℕ) (rows : List Row) (cols : List Column) (table : List
 table_whole m rows cols table all is =
     is ∙ ap (λ (c : List Column). table_of rows c) (sym (take_all m cols all))
     ∙ ap (λ (r : List Row). table_of r (take m cols)) (sym (take_all (length table) rows (omega (arith, table_size rows cols table is))))
+
+pub kept_wider : (i : Inside) (now : Pairs) (more : List Column) → IsKept i → now ≡ record i.columns { cols = i.columns.cols ++ more } → IsKept (record i { columns = now })
+kept_wider i now more kept is =
+    let longer = length-append i.columns.cols more in
+    subst (λ (q : Pairs). IsKept (record i { columns = q })) (sym is) (record {
+      many = kept.many;
+      few = kept.few;
+      cities = kept.cities;
+      small = kept.small;
+      few_rows = kept.few_rows;
+      old_rows = kept.old_rows;
+      old_cols = omega (arith, longer, kept.old_cols);
+      tabled_rows = kept.tabled_rows;
+      tabled_cols = omega (arith, longer, kept.tabled_cols);
+      table = table_wider (length i.table.items) i.tabled_cols i.rows.items i.columns.cols more i.table.items kept.tabled_cols kept.table;
+      newest = newest_wider i.n i.old_rows i.old_cols i.rows.items i.columns.cols more i.old_duals.items i.last kept.old_cols kept.newest;
+    })

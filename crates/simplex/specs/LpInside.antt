@@ -5,7 +5,6 @@ use Rattle.lpcheck.specs.Rows.{IsSmall}
 use Rattle.lpcheck.specs.Cells.{table_of}
 use Rattle.lpcheck.specs.declared.row.Row.{Row}
 use Rattle.lpcheck.specs.declared.column.Column.{Column}
-use Rattle.simplex.specs.Columns.{AreColumns}
 use Rattle.simplex.specs.Lp.{Program, IsAnswer, duals_in}
 use Rattle.simplex.specs.declared.answer.LpAnswer.{LpAnswer}
 use Rattle.simplex.specs.declared.lp.Lp.TheInside.{Inside}

@@ -141,7 +141,8 @@ impl Lp {
         ensures ok { OnOk result (self.new ≡ record self.old { cols = self.old.cols ++ record { u = u; v = v; cost = cost; must = must } ∷ [] }) }
         ensures err { OnErr result (self.new ≡ self.old) }
     {
-        self.columns.push(Column { u, v, cost, must })
+        self.columns.push(Column { u, v, cost, must })?;
+        Ok(())
     }
 
     /// The newest answer; none before the first solve.
