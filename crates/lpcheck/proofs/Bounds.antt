@@ -1,16 +1,15 @@
 -- How large coefficients, prices and reduced costs can be.
-use Rattle.std.proofs.Common.{ℕ, suc, ◌+◌, ◌*◌, ◌^◌, ◌<◌, ◌≤◌, Bool, true, false, cond, List, [], ◌∷◌, length, get_or, map, ℤ, pos, neg_ℤ, ◌+ℤ◌, ◌-ℤ◌, ◌*ℤ◌, ◌≤ℤ◌, ◌≡◌, ap, arith}
+use Rattle.std.proofs.Common.{ℕ, suc, ◌+◌, ◌*◌, ◌^◌, ◌<◌, ◌≤◌, Bool, true, false, cond, List, [], ◌∷◌, length, get_or, map, ℤ, pos, ◌*ℤ◌, arith}
 use Rattle.std.specs.List.{All}
 use Rattle.std.proofs.lemmas.Int.{ints}
 use Rattle.std.proofs.lemmas.List.{length-map, get_or_default}
 use Rattle.std.proofs.lemmas.List.Elements.{All-head, All-tail, All-map, All-weaker}
-use Rattle.tspdef.specs.Bounds.{scale}
 use Rattle.tspdef.specs.Cuts.{coefficient}
 use Rattle.tspdef.specs.Sets.{has}
 use Rattle.tspdef.specs.Tours.{crosses}
 use Rattle.lpcheck.specs.Sizes.{IsWithin}
 use Rattle.lpcheck.specs.Rows.{cities_of_each, coef, signed, price, reduced, IsSmall, IsCheap}
-use Rattle.lpcheck.specs.Rests.{IsDual, AreDuals, least_dual}
+use Rattle.lpcheck.specs.Rests.{IsDual, AreDuals}
 use Rattle.lpcheck.specs.declared.row.Sense.{Sense}
 use Rattle.lpcheck.specs.declared.row.Sense.TheVariants.{Eq, AtLeast, AtMost}
 use Rattle.lpcheck.specs.declared.row.Row.{Row}

@@ -1,15 +1,14 @@
 -- What the cells of a row add up to.
-use Rattle.std.proofs.Common.{◌≡◌, ℕ, suc, ◌+◌, ◌*◌, ◌<◌, ◌≤◌, ◌==◌, Bool, true, false, cond, List, [], ◌∷◌, ◌++◌, length, map, take, drop, set, get_or, ℤ, pos, ◌+ℤ◌, ◌-ℤ◌, ◌*ℤ◌, refl, ap, sym, subst, ◌∙◌, arith, append_assoc}
-use Rattle.std.specs.List.{All}
+use Rattle.std.proofs.Common.{◌≡◌, ℕ, zero, suc, ◌+◌, ◌*◌, ◌<◌, ◌≤◌, ◌==◌, Bool, true, false, cond, List, [], ◌∷◌, ◌++◌, length, map, take, drop, set, get_or, ℤ, pos, ◌+ℤ◌, ◌-ℤ◌, ◌*ℤ◌, refl, ap, sym, ◌∙◌, arith, append_assoc}
 use Rattle.std.proofs.lemmas.Int.{ints}
 use Rattle.std.proofs.lemmas.Bool.{eqb-true}
-use Rattle.std.proofs.lemmas.List.{drop_more, take-append-drop, take_more_set, drop-set-lt, set-get_or, get_or-map, length-map, length-set}
+use Rattle.std.proofs.lemmas.List.{drop_more, take-append-drop, take_more_set, drop-set-lt, set-get_or, get_or-map, get_or-take, get_or-drop, length-map, length-set, length-take-le}
 use Rattle.std.proofs.lemmas.List.Elements.{All-nil, All-cons}
 use Rattle.std.proofs.Math.IntN.{*ℤ-zero}
 use Rattle.lpcheck.specs.Rows.{coef, reduced, term}
 use Rattle.lpcheck.specs.Answers.{activity}
 use Rattle.lpcheck.specs.Cells.{cells_from, cells_of, AreWithin, dot, lowered, no_column}
-use Rattle.lpcheck.specs.Steps.{column_gain, columns_gain, cell_gain, cells_gain}
+use Rattle.lpcheck.specs.Steps.{column_gain, columns_gain, cells_gain}
 use Rattle.lpcheck.specs.declared.row.Row.{Row}
 use Rattle.lpcheck.specs.declared.column.Column.{Column}
 use Rattle.lpcheck.specs.declared.cells.Cell.{Cell}
@@ -30,6 +29,40 @@ few_by false n cell cells h = omega arith
 pub cells_few : (j : ℕ) (row : Row) (cols : List Column) → length (cells_from j row cols) ≤ length cols
 cells_few j row [] = omega arith
 cells_few j row (c ∷ cs) = few_by (coef row c.u c.v == 0) (length cs) (record { column = j; coef = coef row c.u c.v }) (cells_from (j + 1) row cs) (cells_few (j + 1) row cs)
+
+-- ---- the cells of some first columns, and of the others
+
+known_by : (b : Bool) (xs ys zs : List Cell) (q : Cell) → xs ++ ys ≡ zs → cond b xs (q ∷ xs) ++ ys ≡ cond b zs (q ∷ zs)
+known_by true xs ys zs q is = is
+known_by false xs ys zs q is = ap (λ (l : List Cell). q ∷ l) is
+
+pub cells_split : (cols : List Column) (j k : ℕ) (row : Row) → cells_from j row (take k cols) ++ cells_from (j + k) row (drop k cols) ≡ cells_from j row cols
+cells_split [] j zero row = refl
+cells_split [] j (suc k) row = refl
+cells_split (c ∷ cs) j zero row = let same : j + 0 ≡ j = omega arith in ap (λ (i : ℕ). cells_from i row (c ∷ cs)) same
+cells_split (c ∷ cs) j (suc k) row =
+    let place : j + suc k ≡ (j + 1) + k = omega arith in
+    let rest = known_by (coef row c.u c.v == 0) (cells_from (j + 1) row (take k cs)) (cells_from ((j + 1) + k) row (drop k cs)) (cells_from (j + 1) row cs)
+    (record { column = j; coef = coef row c.u c.v }) (cells_split cs (j + 1) k row) in
+    ap (λ (i : ℕ). cells_from j row (c ∷ take k cs) ++ cells_from i row (drop k cs)) place ∙ rest
+
+pub cells_known : (cols : List Column) (k : ℕ) (row : Row) → cells_of (take k cols) row ++ cells_from k row (drop k cols) ≡ cells_from 0 row cols
+cells_known cols k row = let same : k ≡ 0 + k = omega arith in ap (λ (i : ℕ). cells_from 0 row (take k cols) ++ cells_from i row (drop k cols)) same ∙ cells_split cols 0 k row
+
+same_at : (at : ℕ) (now was : List (List Cell)) (d : List Cell) → drop at now ≡ drop at was → get_or now at d ≡ get_or was at d
+same_at at now was d tail =
+    let same : at + 0 ≡ at = omega arith in
+    let of_now : get_or (drop at now) 0 d ≡ get_or now at d = get_or-drop at now 0 d ∙ ap (λ (i : ℕ). get_or now i d) same in
+    let of_was : get_or (drop at was) 0 d ≡ get_or was at d = get_or-drop at was 0 d ∙ ap (λ (i : ℕ). get_or was i d) same in
+    sym of_now ∙ ap (λ (l : List (List Cell)). get_or l 0 d) tail ∙ of_was
+
+-- the cells at a place of a table that was not reached yet
+pub known_at : (rows : List Row) (cols : List Column) (k m at : ℕ) (now was : List (List Cell)) (r : Row) (cells : List Cell) → was ≡ map (cells_of (take k cols)) (take m rows) → drop at now ≡ drop at was
+    → at < m → m ≤ length rows → r ≡ get_or rows at r → cells ≡ get_or now at cells → cells ≡ cells_of (take k cols) r
+known_at rows cols k m at now was r cells known tail below fewer row_is cells_are =
+    let inside : at < length (take m rows) = omega (arith, length-take-le m rows fewer, below) in
+    cells_are ∙ same_at at now was cells tail ∙ ap (λ (t : List (List Cell)). get_or t at cells) known ∙ get_or-map (cells_of (take k cols)) (take m rows) at r cells inside
+    ∙ ap (cells_of (take k cols)) (get_or-take m rows at r below ∙ sym row_is)
 
 -- ---- sums of values
 

@@ -1,5 +1,5 @@
 -- The table of coefficients: of each row, the columns that it has one of.
-use Rattle.std.specs.Prelude.{ℕ, ◌+◌, ◌*◌, ◌==◌, ◌<◌, cond, false, List, [], ◌∷◌, map, length, ℤ, pos, ◌+ℤ◌, ◌-ℤ◌, ◌*ℤ◌, slice_index_or, slice_set}
+use Rattle.std.specs.Prelude.{ℕ, ◌+◌, ◌*◌, ◌==◌, ◌<◌, cond, false, List, [], ◌∷◌, map, ℤ, pos, ◌+ℤ◌, ◌-ℤ◌, ◌*ℤ◌, slice_index_or, slice_set}
 use Rattle.std.specs.List.{All}
 use Rattle.lpcheck.specs.Rows.{coef, term}
 use Rattle.lpcheck.specs.declared.row.Row.{Row}

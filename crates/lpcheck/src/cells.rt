@@ -1,6 +1,7 @@
 //! The table of coefficients, row by row.
-ghost use Rattle.std.specs.Prelude.{◌≡◌, ◌≤◌, length, All, IfOk};
-ghost use Rattle.lpcheck.specs.Rows.{coef, IsSmall};
+ghost use Rattle.std.specs.Prelude.{◌≡◌, ◌≤◌, [], ◌∷◌, length, take, All, IfOk, IfSome, OnOk};
+ghost use Rattle.tspdef.specs.Cuts.{coefficient};
+ghost use Rattle.lpcheck.specs.Rows.{coef, cities_of_each, IsSmall};
 ghost use Rattle.lpcheck.specs.Cells.{cells_of, table_of};
 
 use crate::{Column, Row};
@@ -36,6 +37,73 @@ impl Cells {
     {
         &self.list
     }
+
+    /// The coefficients of a row, of which those of the columns before a place are known.
+    fn grow(&mut self, row: &Row, cols: &[Column], from: usize) -> Result<(), AllocError>
+        requires small { IsSmall row.now }
+        requires few_cols { length cols.now ≤ 4194304 }
+        requires place { from ≤ length cols.now }
+        requires known { self.old ≡ cells_of (take from cols.now) row.now }
+        ensures { OnOk result (self.new ≡ cells_of cols.now row.now) }
+    {
+        extend(&mut self.list, row, cols, from)
+    }
+}
+
+/// The city of a row of one set with one city, as the degree rows are.
+fn lone_city(row: &Row) -> Option<u32>
+    ensures { IfSome result (λ c. cities_of_each row.now.sets.items ≡ (c ∷ []) ∷ []) }
+{
+    if row.sets.len() != 1 {
+        return None;
+    }
+    let cities = row.sets[0].cities();
+    if cities.len() != 1 {
+        return None;
+    }
+    Some(cities[0])
+}
+
+/// The coefficient of a pair in the row of a lone city.
+#[inline]
+fn lone_coef(city: u32, u: u32, v: u32) -> u16
+    ensures { result ≡ coefficient ((city ∷ []) ∷ []) u v }
+{
+    u16::from((u == city) != (v == city))
+}
+
+/// The coefficient of a column in a row, whose lone city is known where it has one.
+#[inline]
+fn coef_of(row: &Row, lone: Option<u32>, column: &Column) -> u16
+    requires small { IsSmall row.now }
+    requires lone { IfSome lone (λ c. cities_of_each row.now.sets.items ≡ (c ∷ []) ∷ []) }
+    ensures { result ≡ coef row.now column.now.u column.now.v }
+{
+    match lone {
+        Some(city) => lone_coef(city, column.u, column.v),
+        None => row.coef(column.u, column.v),
+    }
+}
+
+/// The coefficients of a row, of which those of the columns before a place are known.
+fn extend(list: &mut Vec<Cell>, row: &Row, cols: &[Column], from: usize) -> Result<(), AllocError>
+    requires small { IsSmall row.now }
+    requires few_cols { length cols.now ≤ 4194304 }
+    requires place { from ≤ length cols.now }
+    requires known { list.old.items ≡ cells_of (take from cols.now) row.now }
+    ensures { OnOk result (list.new.items ≡ cells_of cols.now row.now) }
+{
+    let lone = lone_city(row);
+    for place in from..cols.len() {
+        let coef = coef_of(row, lone, &cols[place]);
+        if coef != 0 {
+            list.push(Cell {
+                column: place as u32,
+                coef,
+            })?;
+        }
+    }
+    Ok(())
 }
 
 /// The coefficients of a row.
@@ -45,27 +113,51 @@ fn cells_of(alloc: Global, row: &Row, cols: &[Column]) -> Result<Cells, AllocErr
     ensures { IfOk result (λ cells. cells ≡ cells_of cols.now row.now) }
 {
     let mut list = Vec::new(alloc);
-    for (place, column) in cols.iter().enumerate() {
-        let coef = row.coef(column.u, column.v);
-        if coef != 0 {
-            list.push(Cell {
-                column: place as u32,
-                coef,
-            })?;
-        }
-    }
+    extend(&mut list, row, cols, 0)?;
     Ok(Cells { list })
 }
 
-/// The coefficients of all rows.
-pub fn table_of(alloc: Global, rows: &[Row], cols: &[Column]) -> Result<Vec<Cells>, AllocError>
+/// The coefficients of the rows that a table has, of which those of the columns before a place are known.
+fn widen(
+    table: &mut Vec<Cells>,
+    rows: &[Row],
+    cols: &[Column],
+    from: usize,
+) -> Result<(), AllocError>
     requires small { All IsSmall rows.now }
     requires few_cols { length cols.now ≤ 4194304 }
-    ensures { IfOk result (λ table. table.items ≡ table_of rows.now cols.now) }
+    requires place { from ≤ length cols.now }
+    requires fewer { length table.old.items ≤ length rows.now }
+    requires known { table.old.items ≡ table_of (take (length table.old.items) rows.now) (take from cols.now) }
+    ensures size { length table.new.items ≡ length table.old.items }
+    ensures wide { OnOk result (table.new.items ≡ table_of (take (length table.old.items) rows.now) cols.now) }
 {
-    let mut table = Vec::with_capacity(alloc, rows.len())?;
-    for row in rows {
-        table.push(cells_of(alloc, row, cols)?)?;
+    for at in 0..table.len() {
+        table[at].grow(&rows[at], cols, from)?;
     }
-    Ok(table)
+    Ok(())
+}
+
+/// The coefficients of all rows, of which those of some first rows and columns are known: a table with the rows and the
+/// columns that came since. Costs O(sets) for each pair of a row and a column that is not both known.
+pub fn grow_table(
+    alloc: Global,
+    table: Vec<Cells>,
+    rows: &[Row],
+    cols: &[Column],
+    from: usize,
+) -> Result<Vec<Cells>, AllocError>
+    requires small { All IsSmall rows.now }
+    requires few_cols { length cols.now ≤ 4194304 }
+    requires place { from ≤ length cols.now }
+    requires fewer { length table.items ≤ length rows.now }
+    requires known { table.items ≡ table_of (take (length table.items) rows.now) (take from cols.now) }
+    ensures { IfOk result (λ t. t.items ≡ table_of rows.now cols.now) }
+{
+    let mut whole = table;
+    widen(&mut whole, rows, cols, from)?;
+    for at in whole.len()..rows.len() {
+        whole.push(cells_of(alloc, &rows[at], cols)?)?;
+    }
+    Ok(whole)
 }

@@ -17,7 +17,7 @@ mod step;
 
 pub use added::{falls_any, misses_any};
 pub use answer::{Judged, judge};
-pub use cells::{Cell, Cells, table_of};
+pub use cells::{Cell, Cells, grow_table};
 pub use column::Column;
 pub use reduced::reduced_costs;
 pub use row::{Row, Sense};

@@ -1,5 +1,5 @@
 -- Linear programs over rows of city sets, and what their answers say.
-use Rattle.std.specs.Prelude.{◌≡◌, ℕ, ◌+◌, ◌-◌, ◌^◌, ◌≤◌, Bool, true, false, cond, ◌||◌, min, List, length, take, drop, ℤ, pos, Option, Some, None}
+use Rattle.std.specs.Prelude.{◌≡◌, ℕ, ◌+◌, ◌-◌, ◌^◌, Bool, true, false, cond, ◌||◌, min, List, length, take, drop, ℤ, pos, Option, Some, None}
 use Rattle.cyc.specs.Frac.{Values, value_of}
 use Rattle.lpcheck.specs.Answers.{IsGood}
 use Rattle.lpcheck.specs.Answers as answers

@@ -2,9 +2,9 @@
 use Rattle.std.specs.Prelude.{◌≡◌, ℕ, ◌≤◌, List, length, take, ℤ, Option, Some, None}
 use Rattle.std.specs.List.{All}
 use Rattle.lpcheck.specs.Rows.{IsSmall}
+use Rattle.lpcheck.specs.Cells.{table_of}
 use Rattle.lpcheck.specs.declared.row.Row.{Row}
 use Rattle.lpcheck.specs.declared.column.Column.{Column}
-use Rattle.simplex.specs.Columns.{AreColumns}
 use Rattle.simplex.specs.Lp.{Program, IsAnswer, duals_in}
 use Rattle.simplex.specs.declared.answer.LpAnswer.{LpAnswer}
 use Rattle.simplex.specs.declared.lp.Lp.TheInside.{Inside}
@@ -25,4 +25,7 @@ pub record IsKept (p : Inside) : Type 0 where
   pub few_rows : length p.rows.items ≤ 4194304
   pub old_rows : p.old_rows ≤ length p.rows.items
   pub old_cols : p.old_cols ≤ length p.columns.cols
+  pub tabled_rows : length p.table.items ≤ length p.rows.items
+  pub tabled_cols : p.tabled_cols ≤ length p.columns.cols
+  pub table : p.table.items ≡ table_of (take (length p.table.items) p.rows.items) (take p.tabled_cols p.columns.cols)
   pub newest : IsNewest p.n (take p.old_rows p.rows.items) (take p.old_cols p.columns.cols) p.old_duals.items p.last

@@ -1,56 +1,63 @@
-//! The engine: a bounded-variable dual simplex in whole numbers, with an explicit inverse of the basis.
+//! The engine: a bounded-variable dual simplex in whole numbers, over a factored basis.
 //!
 //! Each row is an equation of the columns and a slack of its own, with basic variables one a line. Costs are not negative,
-//! so the basis of all slacks is dual feasible, and stays so: the line that is furthest out of its bounds leaves, and the
-//! ratio test finds who enters. A new row comes with its slack basic, its line of the inverse by bordering; a new column
-//! starts at the bound that its reduced cost asks for: so every solve goes on from the last. Costs bear a tiny noise,
+//! so the basis of all slacks is dual feasible, and stays so: the line whose miss weighs most leaves, and the ratio test
+//! finds who enters, and which columns go over to their other bound on the way. A new row comes with its slack basic; a new
+//! column starts at the bound that its reduced cost asks for: so every solve goes on from the last. Costs bear a tiny noise,
 //! fixed for a column's life, against cycling; at the end the duals are found anew by the true costs, with a residual that
-//! is mended three times. The inverse is kept by columns, and only the part that a pivot touches is written:
-//! O(nonzeros of the leaving row of the inverse times nonzeros of the entering column) a pivot, m^2 at the most.
+//! is mended three times. A pivot costs O(entries of the factors, and cells of the rows that the leaving line meets).
 //! Nothing is proved of it but that it is safe and ends: the check decides what its answer is worth.
-//! (Lemke 1954; Dantzig and Wolfe; Koberstein's survey of the dual simplex.)
+//! (Lemke 1954; Forrest and Goldfarb 1992; Maros 2003; Koberstein's survey of the dual simplex.)
 use lpcheck::{Cells, Column, Row};
 use std::alloc::{AllocError, Global};
 
+mod factoring;
+mod factors;
 mod fixed;
 mod growth;
+mod lists;
 mod pivot;
+mod ratio;
 mod refine;
 
+use factors::Factors;
 use fixed::ONE;
+use lists::Entry;
 
-/// Where a variable stands.
+/// Where a variable stands: in the basis, at its least or greatest value, or at its only one.
 #[derive(Clone, Copy, PartialEq, Eq)]
 enum State {
     Basic,
     Low,
     High,
+    Held,
 }
 
-/// The basic variable of a line.
+/// A variable.
 #[derive(Clone, Copy)]
 enum Head {
     Column(u32),
     Slack(u32),
 }
 
-/// A coefficient of a column.
-#[derive(Clone, Copy)]
-struct Entry {
-    row: u32,
-    coef: i64,
-}
-
-/// A column: its value is from its least to one.
+/// A column: its value is from 0 to one, or one where it is held.
 #[derive(Drop)]
 struct Pair {
     cost: i64,
     noise: i64,
-    low: i64,
+    held: bool,
     entries: Vec<Entry>,
-    state: State,
-    reduced: i64,
     value: i64,
+}
+
+/// What a pivot asks of a column: its reduced cost, and what it has of the leaving line of the inverse.
+#[derive(Clone, Copy)]
+struct Rate {
+    reduced: i64,
+    step: i64,
+    state: State,
+    // it is among those that the line meets
+    hit: bool,
 }
 
 /// The slack of a row: what its sum lacks to the right side.
@@ -71,31 +78,37 @@ struct Line {
     value: i64,
     low: i64,
     high: i64,
-    step: i64,
     // the reference weight by which the line's miss is measured
     weight: i64,
 }
 
-/// A line that the entering variable changes, and by how much.
+/// A variable that bounds how far the duals may go, by the ratio of its reduced cost to its step.
 #[derive(Clone, Copy)]
-struct Touched {
-    line: u32,
+struct Break {
+    head: Head,
+    reduced: i64,
     step: i64,
+    // how far it is from its one bound to the other
+    range: i64,
 }
 
-/// A basis and its inverse, of the rows and columns seen so far. What is not a count is in 2^-32.
+/// A basis and its factors, of the rows and columns seen so far. What is not a count is in 2^-32.
 #[derive(Drop)]
 pub struct Engine {
     pairs: Vec<Pair>,
+    rates: Vec<Rate>,
     slacks: Vec<Slack>,
     lines: Vec<Line>,
-    // the inverse: of each row, its column
-    inverse: Vec<Vec<i64>>,
+    factors: Factors,
     // the leaving line of the inverse
     rho: Vec<i64>,
-    // what each column has of it
-    steps: Vec<i64>,
-    touched: Vec<Touched>,
+    // a list by lines or rows, for the while
+    work: Vec<i64>,
+    // the columns that the leaving line meets
+    hits: Vec<u32>,
+    breaks: Vec<Break>,
+    // the columns that go over to their other bound
+    flips: Vec<u32>,
     duals: Vec<i64>,
     // what a ray adds to each dual, in units
     ray: Vec<i64>,
@@ -109,12 +122,15 @@ impl Engine {
     pub fn new(alloc: Global) -> Engine {
         Engine {
             pairs: Vec::new(alloc),
+            rates: Vec::new(alloc),
             slacks: Vec::new(alloc),
             lines: Vec::new(alloc),
-            inverse: Vec::new(alloc),
+            factors: Factors::none(alloc),
             rho: Vec::new(alloc),
-            steps: Vec::new(alloc),
-            touched: Vec::new(alloc),
+            work: Vec::new(alloc),
+            hits: Vec::new(alloc),
+            breaks: Vec::new(alloc),
+            flips: Vec::new(alloc),
             duals: Vec::new(alloc),
             ray: Vec::new(alloc),
             shift: 0,
@@ -138,7 +154,7 @@ impl Engine {
         }
         engine.shift = engine.shift.max(shift);
         engine.grow(alloc, table, rows, cols)?;
-        engine.pivot_all(table, pivots)?;
+        engine.pivot_all(alloc, table, pivots)?;
         Ok(engine)
     }
 

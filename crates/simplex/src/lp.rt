@@ -1,5 +1,5 @@
 //! Linear programs.
-ghost use Rattle.std.specs.Prelude.{◌≡◌, ◌≤◌, ◌<◌, false, [], ◌∷◌, ◌++◌, length, map, Option, Some, None, All, IfOk, IfSome, IfNone, OnOk, OnErr};
+ghost use Rattle.std.specs.Prelude.{◌≡◌, ◌≤◌, ◌<◌, false, [], ◌∷◌, ◌++◌, length, map, take, Option, Some, None, All, IfOk, IfSome, IfNone, OnOk, OnErr};
 ghost use Rattle.lpcheck.specs.Rows.{IsSmall};
 ghost use Rattle.lpcheck.specs.Cells.{table_of};
 ghost use Rattle.simplex.specs.Columns.{AreColumns, is_col};
@@ -9,7 +9,7 @@ use crate::LpAnswer;
 use crate::columns::Columns;
 use crate::engine::Engine;
 use crate::made::{answer_of, is_new_to};
-use lpcheck::{Cells, Column, Row, table_of};
+use lpcheck::{Cells, Column, Row, grow_table};
 use std::alloc::{AllocError, Global};
 use std::marker::Model;
 use std::mem;
@@ -23,6 +23,9 @@ pub struct Lp {
     rows: Vec<Row>,
     columns: Columns,
     engine: Engine,
+    // the coefficients of some first rows and columns
+    table: Vec<Cells>,
+    tabled_cols: usize,
     old_rows: usize,
     old_cols: usize,
     old_duals: Vec<i64>,
@@ -30,10 +33,11 @@ pub struct Lp {
     last: Option<LpAnswer>,
 }
 
-/// What a solve found: the engine as it stands, whether the solve counts, the answer, and its duals.
+/// What a solve found: the engine as it stands, the table of all coefficients, whether the solve counts, the answer, and its duals.
 #[derive(Drop)]
 struct Found {
     engine: Engine,
+    table: Vec<Cells>,
     counted: bool,
     answer: LpAnswer,
     duals: Vec<i64>,
@@ -73,6 +77,8 @@ impl Lp {
             rows,
             columns: Columns::new(alloc, n)?,
             engine: Engine::new(alloc),
+            table: Vec::new(alloc),
+            tabled_cols: 0,
             old_rows: 0,
             old_cols: 0,
             old_duals: Vec::new(alloc),
@@ -135,7 +141,8 @@ impl Lp {
         ensures ok { OnOk result (self.new ≡ record self.old { cols = self.old.cols ++ record { u = u; v = v; cost = cost; must = must } ∷ [] }) }
         ensures err { OnErr result (self.new ≡ self.old) }
     {
-        self.columns.push(Column { u, v, cost, must })
+        self.columns.push(Column { u, v, cost, must })?;
+        Ok(())
     }
 
     /// The newest answer; none before the first solve.
@@ -174,19 +181,31 @@ impl Lp {
         }
     }
 
-    /// What a solve finds, by an engine that is given back.
-    fn find(&self, alloc: Global, engine: Engine, pivots: u32) -> Result<Found, AllocError>
+    /// What a solve finds, by an engine and a table that are given back.
+    fn find(
+        &self,
+        alloc: Global,
+        engine: Engine,
+        table: Vec<Cells>,
+        from: usize,
+        pivots: u32,
+    ) -> Result<Found, AllocError>
+        requires place { from ≤ length self.now.cols }
+        requires fewer { length table.items ≤ length self.now.rows }
+        requires known { table.items ≡ table_of (take (length table.items) self.now.rows) (take from self.now.cols) }
+        ensures table { IfOk result (λ f. f.table.items ≡ table_of self.now.rows self.now.cols) }
         ensures counted { IfOk result (λ f. f.counted ≡ is_counted self.now) }
         ensures answer { IfOk result (λ f. IsAnswer self.now.n self.now.rows self.now.cols f.answer) }
         ensures duals { IfOk result (λ f. duals_in f.answer ≡ f.duals.items) }
     {
         let cols = self.columns.all();
-        let table = table_of(alloc, &self.rows, cols)?;
+        let table = grow_table(alloc, table, &self.rows, cols, from)?;
         let counted = self.counts(alloc, &table)?;
         let engine = engine.run(alloc, &table, &self.rows, cols, pivots)?;
         let (answer, duals) = answer_of(alloc, self.n, &engine, &table, &self.rows, cols)?;
         Ok(Found {
             engine,
+            table,
             counted,
             answer,
             duals,
@@ -200,7 +219,8 @@ impl Lp {
         ensures err { OnErr result (self.new ≡ self.old) }
     {
         let engine = mem::replace(&mut self.engine, Engine::new(alloc));
-        let found = self.find(alloc, engine, pivots)?;
+        let table = mem::replace(&mut self.table, Vec::new(alloc));
+        let found = self.find(alloc, engine, table, self.tabled_cols, pivots)?;
         self.keep(found);
         Ok(())
     }
@@ -209,18 +229,23 @@ impl Lp {
     fn keep(&mut self, found: Found)
         requires answer { IsAnswer self.old.n self.old.rows self.old.cols found.answer }
         requires duals { duals_in found.answer ≡ found.duals.items }
+        requires table { found.table.items ≡ table_of self.old.rows self.old.cols }
         requires counted { found.counted ≡ is_counted self.old }
         ensures { IsSolve self.old self.new }
     {
         let Found {
             engine,
+            table,
             counted,
             answer,
             duals,
         } = found;
+        let cols = self.columns.all().len();
         self.engine = engine;
+        self.table = table;
+        self.tabled_cols = cols;
         self.old_rows = self.rows.len();
-        self.old_cols = self.columns.all().len();
+        self.old_cols = cols;
         self.old_duals = duals;
         self.last = Some(answer);
         if counted {

@@ -1,8 +1,16 @@
 //! Worked programs, programs with no values, degenerate ones, and drawn ones against a plain flow.
 use crate::{Lp, LpAnswer, Row, Sense};
+use branchx::Path;
 use cyc::CitySet;
+use distx::{Kind, Point};
+use pricer::{Fit, bound, fits, round};
 use std::alloc::{AllocError, Global};
 use std::test::Fail;
+use tspinst::from_points;
+
+mod plain;
+
+use plain::Flow;
 
 /// A program of no rows over n cities.
 fn empty(alloc: Global, n: u32) -> Result<Lp, AllocError> {
@@ -129,6 +137,29 @@ fn square_is_solved(rt: HostRuntime) -> Result<(), Fail> {
 }
 
 #[test]
+fn the_duals_of_the_square_close_it(rt: HostRuntime) -> Result<(), Fail> {
+    let alloc = rt.alloc();
+    let points = [
+        Point::new(0, 0),
+        Point::new(10, 0),
+        Point::new(10, 10),
+        Point::new(0, 10),
+    ];
+    let instance = from_points(alloc, Kind::Euc, &points)?;
+    let mut lp = complete(alloc, 4, &SQUARE)?;
+    lp.solve(alloc, 1000)?;
+    assert!(rt; is_solved(&lp));
+    if let Some(LpAnswer::Solved { duals, .. }) = lp.last() {
+        let path = Path::new(alloc, 4);
+        let closing = round(alloc, 4, duals, Vec::new(alloc), Vec::new(alloc))?;
+        assert_eq!(rt; path.n(), instance.n());
+        assert_eq!(rt; fits(&instance, &path, &closing), Fit::Fits);
+        assert!(rt; bound(&instance, &path, &closing) >= 40_894_465);
+    }
+    Ok(())
+}
+
+#[test]
 fn no_columns_are_rough_with_high_duals(rt: HostRuntime) -> Result<(), Fail> {
     let alloc = rt.alloc();
     let mut lp = degrees(alloc, 4)?;
@@ -224,6 +255,67 @@ fn costs_that_are_equal_or_large_are_solved(rt: HostRuntime) -> Result<(), Fail>
         let mut lp = complete(alloc, 12, &[cost; 66])?;
         lp.solve(alloc, 1000)?;
         assert!(rt; costs(&lp, 12 * u64::from(cost), u64::from(cost)));
+    }
+    Ok(())
+}
+
+/// The next of some numbers that look drawn.
+fn next(state: u64) -> u64 {
+    state
+        .wrapping_mul(6_364_136_223_846_793_005)
+        .wrapping_add(1_442_695_040_888_963_407)
+}
+
+/// Costs of the pairs of n cities, from 0 to 1,000, in the order of their lesser city.
+fn draw(alloc: Global, n: u32, seed: u64) -> Result<Vec<u32>, AllocError> {
+    let mut state = seed;
+    let mut costs = Vec::new(alloc);
+    for u in 0..n {
+        for _ in u..n {
+            state = next(state);
+            costs.push(((state >> 33) % 1001) as u32)?;
+        }
+    }
+    Ok(costs)
+}
+
+/// The same costs, by rows.
+fn by_rows(alloc: Global, n: u32, costs: &[u32]) -> Result<Vec<i64>, AllocError> {
+    let size = n as usize;
+    let mut table: Vec<i64> = vec![in alloc; 0; size.saturating_mul(size)]?;
+    let mut next = costs.iter();
+    for u in 0..size {
+        for v in 0..size {
+            if u < v {
+                let cost = i64::from(next.next().copied().unwrap_or(0));
+                for place in [
+                    u.wrapping_mul(size).wrapping_add(v),
+                    v.wrapping_mul(size).wrapping_add(u),
+                ] {
+                    if let Some(to) = table.get_mut(place) {
+                        *to = cost;
+                    }
+                }
+            }
+        }
+    }
+    Ok(table)
+}
+
+#[test]
+fn drawn_programs_have_the_values_of_a_plain_flow(rt: HostRuntime) -> Result<(), Fail> {
+    let alloc = rt.alloc();
+    for seed in 0..300u32 {
+        let n = (seed % 5).wrapping_add(6);
+        let drawn = draw(alloc, n, u64::from(seed))?;
+        let mut flow = Flow::new(alloc, n as usize, by_rows(alloc, n, &drawn)?)?;
+        let twice = flow.least();
+        assert!(rt; flow.is_whole());
+        let mut lp = complete(alloc, n, &drawn)?;
+        lp.solve(alloc, 1000)?;
+        assert!(rt; is_solved(&lp));
+        let units = (twice.unsigned_abs()) << 19;
+        assert!(rt; cost_of(&lp).abs_diff(units) <= 1024 * 1001);
     }
     Ok(())
 }

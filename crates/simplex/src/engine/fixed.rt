@@ -20,6 +20,9 @@ pub fn div(a: i64, b: i64) -> i64 {
     if b == 0 {
         return 0;
     }
+    if b == ONE {
+        return a;
+    }
     let top = i128::from(a) * 4_294_967_296;
     top.wrapping_div(i128::from(b)).clamp(-LIMIT, LIMIT) as i64
 }

@@ -1,6 +1,7 @@
 //! New rows and columns.
 use super::fixed::{FAR, ONE};
-use super::{Engine, Entry, Head, Line, Pair, Slack, State, dot};
+use super::lists::{Entry, narrow};
+use super::{Engine, Head, Line, Pair, Rate, Slack, State, dot};
 use lpcheck::{Cells, Column, Row, Sense};
 use std::alloc::{AllocError, Global};
 
@@ -27,9 +28,6 @@ impl Engine {
     ) -> Result<(), AllocError> {
         let old_rows = self.slacks.len();
         let old_cols = self.pairs.len();
-        for _ in old_cols..cols.len() {
-            self.steps.push(0)?;
-        }
         for column in cols.iter().skip(old_cols) {
             self.add_pair(alloc, column, cols.len())?;
         }
@@ -38,7 +36,7 @@ impl Engine {
         }
         self.start_pairs(old_cols);
         for (row, cells) in rows.iter().zip(table).skip(old_rows) {
-            self.add_row(alloc, row, cells)?;
+            self.add_row(row, cells)?;
         }
         Ok(())
     }
@@ -53,11 +51,15 @@ impl Engine {
         self.pairs.push(Pair {
             cost,
             noise,
-            low: if column.must { ONE } else { 0 },
+            held: column.must,
             entries: Vec::new(alloc),
-            state: State::Low,
-            reduced: 0,
             value: if column.must { ONE } else { 0 },
+        })?;
+        self.rates.push(Rate {
+            reduced: 0,
+            step: 0,
+            state: if column.must { State::Held } else { State::Low },
+            hit: false,
         })?;
         Ok(())
     }
@@ -75,7 +77,7 @@ impl Engine {
     fn add_entry(&mut self, column: u32, row: usize, coef: u16) -> Result<(), AllocError> {
         if let Some(pair) = self.pairs.get_mut(column as usize) {
             pair.entries.push(Entry {
-                row: (row & 0xffff_ffff) as u32,
+                row: narrow(row),
                 coef: i64::from(coef),
             })?;
         }
@@ -84,20 +86,20 @@ impl Engine {
 
     /// Puts each new column at the bound that its reduced cost asks for. The values of the lines are mended later.
     fn start_pairs(&mut self, from: usize) {
-        for pair in self.pairs.iter_mut().skip(from) {
-            pair.reduced = pair
+        for (pair, rate) in self.pairs.iter_mut().zip(self.rates.iter_mut()).skip(from) {
+            rate.reduced = pair
                 .cost
                 .wrapping_add(pair.noise)
                 .wrapping_sub(dot(&pair.entries, &self.duals));
-            if pair.low == 0 && pair.reduced < 0 {
-                pair.state = State::High;
+            if !pair.held && rate.reduced < 0 {
+                rate.state = State::High;
                 pair.value = ONE;
             }
         }
     }
 
     /// A new row, with its slack basic in a new line.
-    fn add_row(&mut self, alloc: Global, row: &Row, cells: &Cells) -> Result<(), AllocError> {
+    fn add_row(&mut self, row: &Row, cells: &Cells) -> Result<(), AllocError> {
         let place = self.slacks.len();
         self.add_entries(cells, place, 0)?;
         let rhs = i64::from(row.rhs).wrapping_mul(ONE);
@@ -109,7 +111,6 @@ impl Engine {
         }
         let low = if row.sense == Sense::AtLeast { -FAR } else { 0 };
         let high = if row.sense == Sense::AtMost { FAR } else { 0 };
-        self.border(alloc, cells)?;
         self.slacks.push(Slack {
             low,
             high,
@@ -119,50 +120,16 @@ impl Engine {
             value,
         })?;
         self.lines.push(Line {
-            head: Head::Slack((place & 0xffff_ffff) as u32),
+            head: Head::Slack(narrow(place)),
             value,
             low,
             high,
-            step: 0,
             weight: ONE,
         })?;
         self.rho.push(0)?;
+        self.work.push(0)?;
         self.duals.push(0)?;
         self.ray.push(0)?;
-        Ok(())
-    }
-
-    /// The inverse with one more line and column. In `step` each line has the new row's coefficient of its variable.
-    fn border(&mut self, alloc: Global, cells: &Cells) -> Result<(), AllocError> {
-        for step in self.steps.iter_mut() {
-            *step = 0;
-        }
-        for cell in cells.list() {
-            if let Some(step) = self.steps.get_mut(cell.column as usize) {
-                *step = i64::from(cell.coef);
-            }
-        }
-        for line in self.lines.iter_mut() {
-            line.step = match line.head {
-                Head::Column(j) => self.steps.get(j as usize).copied().unwrap_or(0),
-                Head::Slack(_) => 0,
-            };
-        }
-        for column in self.inverse.iter_mut() {
-            let mut last: i64 = 0;
-            for (line, x) in self.lines.iter().zip(column.iter()) {
-                if line.step != 0 {
-                    last = last.wrapping_sub(line.step.wrapping_mul(*x));
-                }
-            }
-            column.push(last)?;
-        }
-        let mut fresh = Vec::with_capacity(alloc, self.lines.len().saturating_add(1))?;
-        for _ in 0..self.lines.len() {
-            fresh.push(0)?;
-        }
-        fresh.push(ONE)?;
-        self.inverse.push(fresh)?;
         Ok(())
     }
 }

@@ -1,25 +1,17 @@
 //! Pivots.
-use super::fixed::{ONE, div, is_less_ratio, mul};
-use super::{Engine, Head, State, Touched};
+use super::factors::at;
+use super::fixed::{ONE, div, mul};
+use super::lists::narrow;
+use super::ratio::SMALL;
+use super::{Engine, Head, State};
 use lpcheck::Cells;
-use std::alloc::AllocError;
-
-// misses up to this are taken for rounding
-const SMALL: i64 = 65_536;
-
-// no pivot is smaller than this
-const PIVOT: i64 = 8_388_608;
+use std::alloc::{AllocError, Global};
 
 // no reference weight is larger
 const HEAVY: i64 = 1_099_511_627_776;
 
-/// Who enters, by the ratio of its reduced cost to its step.
-#[derive(Clone, Copy)]
-struct Entering {
-    head: Head,
-    reduced: i64,
-    step: i64,
-}
+// a step of an entering variable is at least this
+const TINY: i64 = 4_194_304;
 
 /// The bounds and the value of a variable that enters.
 #[derive(Clone, Copy)]
@@ -27,20 +19,6 @@ struct Start {
     value: i64,
     low: i64,
     high: i64,
-}
-
-/// Whether a variable may enter: its step, seen in the direction in which the line is to change, fits its bound.
-#[inline]
-fn may_enter(state: State, low: i64, high: i64, step: i64, up: bool) -> bool {
-    if state == State::Basic || low == high {
-        return false;
-    }
-    let signed = if up { step } else { step.wrapping_neg() };
-    if state == State::Low {
-        signed < -PIVOT
-    } else {
-        signed > PIVOT
-    }
 }
 
 /// Whether a miss weighs more than the worst so far.
@@ -53,30 +31,70 @@ fn is_worse(miss: i64, weight: i64, worst: i64, worst_weight: i64) -> bool {
     left > right
 }
 
+/// The state of a variable that leaves the basis at a bound.
+#[inline]
+fn state_at(low: i64, high: i64, miss: i64) -> State {
+    if low == high {
+        State::Held
+    } else if miss > 0 {
+        State::High
+    } else {
+        State::Low
+    }
+}
+
 impl Engine {
     /// At most so many pivots, until every line is within its bounds, or one shows that the program has no values.
-    pub fn pivot_all(&mut self, table: &[Cells], pivots: u32) -> Result<(), AllocError> {
+    pub fn pivot_all(
+        &mut self,
+        alloc: Global,
+        table: &[Cells],
+        pivots: u32,
+    ) -> Result<(), AllocError> {
         self.forget_ray();
+        self.factor(alloc)?;
         self.refresh();
         let mut fresh = true;
         for _ in 0..pivots {
+            if self.factors.is_full() {
+                self.factor(alloc)?;
+                self.refresh();
+                fresh = true;
+            }
             match self.leaving() {
                 None => {
                     if fresh {
                         break;
                     }
+                    self.factor(alloc)?;
                     self.refresh();
                     fresh = true;
                 }
                 Some((line, miss)) => {
                     self.take_line(line);
-                    self.price(table);
-                    let Some(chosen) = self.entering(miss < 0) else {
-                        self.follow_ray(miss < 0);
-                        break;
-                    };
-                    self.pivot(line, miss, &chosen)?;
-                    fresh = false;
+                    self.price(table)?;
+                    match self.entering(miss)? {
+                        Some(head) => {
+                            if self.pivot(line, head)? {
+                                fresh = false;
+                            } else if fresh {
+                                break;
+                            } else {
+                                self.factor(alloc)?;
+                                self.refresh();
+                                fresh = true;
+                            }
+                        }
+                        None => {
+                            if fresh {
+                                self.follow_ray(miss < 0);
+                                break;
+                            }
+                            self.factor(alloc)?;
+                            self.refresh();
+                            fresh = true;
+                        }
+                    }
                 }
             }
         }
@@ -84,7 +102,7 @@ impl Engine {
         Ok(())
     }
 
-    /// The line that is furthest out of its bounds, and by how much: negative below.
+    /// The line whose miss weighs most, and by how much it is out of its bounds: negative below.
     fn leaving(&self) -> Option<(usize, i64)> {
         let mut place: Option<(usize, i64)> = None;
         let mut worst: i64 = 0;
@@ -111,99 +129,68 @@ impl Engine {
 
     /// Takes a line of the inverse into `rho`.
     fn take_line(&mut self, line: usize) {
-        for (to, column) in self.rho.iter_mut().zip(&self.inverse) {
-            *to = column.get(line).copied().unwrap_or(0);
+        for to in self.rho.iter_mut() {
+            *to = 0;
+        }
+        if let Some(to) = self.rho.get_mut(line) {
+            *to = ONE;
+        }
+        self.factors.backward(&mut self.rho);
+    }
+
+    fn clear_work(&mut self) {
+        for to in self.work.iter_mut() {
+            *to = 0;
         }
     }
 
-    /// What each column has of `rho`.
-    fn price(&mut self, table: &[Cells]) {
-        for step in self.steps.iter_mut() {
-            *step = 0;
-        }
-        for (factor, cells) in self.rho.iter().zip(table) {
-            if *factor != 0 {
-                for cell in cells.list() {
-                    if let Some(step) = self.steps.get_mut(cell.column as usize) {
-                        *step = step.wrapping_add(i64::from(cell.coef).wrapping_mul(*factor));
-                    }
-                }
-            }
-        }
-    }
-
-    /// The column with the least ratio, and the larger step among equals.
-    fn entering_column(&self, up: bool) -> Option<Entering> {
-        let mut best: Option<Entering> = None;
-        let mut place: u32 = 0;
-        for (pair, step) in self.pairs.iter().zip(&self.steps) {
-            let at = place;
-            place = place.wrapping_add(1);
-            if *step != 0 && may_enter(pair.state, pair.low, ONE, *step, up) {
-                let better = match best {
-                    None => true,
-                    Some(old) => is_less_ratio(pair.reduced, *step, old.reduced, old.step),
-                };
-                if better {
-                    best = Some(Entering {
-                        head: Head::Column(at),
-                        reduced: pair.reduced,
-                        step: *step,
-                    });
-                }
-            }
-        }
-        best
-    }
-
-    /// The variable with the least ratio.
-    fn entering(&self, up: bool) -> Option<Entering> {
-        let mut best = self.entering_column(up);
-        let mut place: u32 = 0;
-        for (slack, step) in self.slacks.iter().zip(&self.rho) {
-            let at = place;
-            place = place.wrapping_add(1);
-            if *step != 0 && may_enter(slack.state, slack.low, slack.high, *step, up) {
-                let better = match best {
-                    None => true,
-                    Some(old) => is_less_ratio(slack.reduced, *step, old.reduced, old.step),
-                };
-                if better {
-                    best = Some(Entering {
-                        head: Head::Slack(at),
-                        reduced: slack.reduced,
-                        step: *step,
-                    });
-                }
-            }
-        }
-        best
-    }
-
-    /// Writes the entering variable's column, in terms of the lines, into their steps.
-    fn enter_column(&mut self, head: Head) {
-        for line in self.lines.iter_mut() {
-            line.step = 0;
-        }
+    /// Writes a variable's column, in terms of the lines, into `work`.
+    fn take_column(&mut self, head: Head) {
+        self.clear_work();
         match head {
             Head::Column(j) => {
                 if let Some(pair) = self.pairs.get(j as usize) {
                     for entry in &pair.entries {
-                        if let Some(column) = self.inverse.get(entry.row as usize) {
-                            for (line, x) in self.lines.iter_mut().zip(column) {
-                                line.step = line.step.wrapping_add(entry.coef.wrapping_mul(*x));
-                            }
+                        if let Some(to) = self.work.get_mut(entry.row as usize) {
+                            *to = entry.coef.wrapping_mul(ONE);
                         }
                     }
                 }
             }
             Head::Slack(i) => {
-                if let Some(column) = self.inverse.get(i as usize) {
-                    for (line, x) in self.lines.iter_mut().zip(column) {
-                        line.step = *x;
+                if let Some(to) = self.work.get_mut(i as usize) {
+                    *to = ONE;
+                }
+            }
+        }
+        self.factors.forward(&mut self.work);
+    }
+
+    /// Puts the columns of `flips` at their other bounds, and moves the lines' values.
+    fn flip(&mut self) {
+        if self.flips.is_empty() {
+            return;
+        }
+        self.clear_work();
+        for place in &self.flips {
+            if let (Some(pair), Some(rate)) = (
+                self.pairs.get_mut(*place as usize),
+                self.rates.get_mut(*place as usize),
+            ) {
+                let up = rate.state == State::Low;
+                rate.state = if up { State::High } else { State::Low };
+                pair.value = if up { ONE } else { 0 };
+                let change = if up { ONE } else { -ONE };
+                for entry in &pair.entries {
+                    if let Some(to) = self.work.get_mut(entry.row as usize) {
+                        *to = to.wrapping_add(entry.coef.wrapping_mul(change));
                     }
                 }
             }
+        }
+        self.factors.forward(&mut self.work);
+        for (line, x) in self.lines.iter_mut().zip(&self.work) {
+            line.value = line.value.wrapping_sub(*x);
         }
     }
 
@@ -212,7 +199,7 @@ impl Engine {
             Head::Column(j) => match self.pairs.get(j as usize) {
                 Some(pair) => Start {
                     value: pair.value,
-                    low: pair.low,
+                    low: 0,
                     high: ONE,
                 },
                 None => Start {
@@ -236,16 +223,32 @@ impl Engine {
         }
     }
 
+    fn reduced_of(&self, head: Head) -> i64 {
+        match head {
+            Head::Column(j) => match self.rates.get(j as usize) {
+                Some(rate) => rate.reduced,
+                None => 0,
+            },
+            Head::Slack(i) => match self.slacks.get(i as usize) {
+                Some(slack) => slack.reduced,
+                None => 0,
+            },
+        }
+    }
+
     /// Puts a variable into a state, with its reduced cost.
-    fn put(&mut self, head: Head, state: State, reduced: i64) {
+    pub(super) fn put(&mut self, head: Head, state: State, reduced: i64) {
         match head {
             Head::Column(j) => {
-                if let Some(pair) = self.pairs.get_mut(j as usize) {
-                    pair.state = state;
-                    pair.reduced = reduced;
+                if let (Some(pair), Some(rate)) = (
+                    self.pairs.get_mut(j as usize),
+                    self.rates.get_mut(j as usize),
+                ) {
+                    rate.state = state;
+                    rate.reduced = reduced;
                     pair.value = match state {
-                        State::Basic => pair.value,
-                        State::Low => pair.low,
+                        State::Basic | State::Held => pair.value,
+                        State::Low => 0,
                         State::High => ONE,
                     };
                 }
@@ -256,7 +259,7 @@ impl Engine {
                     slack.reduced = reduced;
                     slack.value = match state {
                         State::Basic => slack.value,
-                        State::Low => slack.low,
+                        State::Low | State::Held => slack.low,
                         State::High => slack.high,
                     };
                 }
@@ -265,9 +268,9 @@ impl Engine {
     }
 
     fn update_reduced(&mut self, ratio: i64) {
-        for (pair, step) in self.pairs.iter_mut().zip(&self.steps) {
-            if *step != 0 {
-                pair.reduced = pair.reduced.wrapping_sub(mul(ratio, *step));
+        for place in &self.hits {
+            if let Some(rate) = self.rates.get_mut(*place as usize) {
+                rate.reduced = rate.reduced.wrapping_sub(mul(ratio, rate.step));
             }
         }
         for (slack, step) in self.slacks.iter_mut().zip(&self.rho) {
@@ -277,71 +280,53 @@ impl Engine {
         }
     }
 
-    /// Moves the values of the lines, and lists those that change.
-    fn update_lines(
-        &mut self,
-        leaving: usize,
-        change: i64,
-        pivot: i64,
-        weight: i64,
-    ) -> Result<(), AllocError> {
-        self.touched.clear();
-        let mut place: u32 = 0;
-        for line in self.lines.iter_mut() {
-            if line.step != 0 && place as usize != leaving {
-                line.value = line.value.wrapping_sub(mul(change, line.step));
-                let ratio = div(line.step, pivot);
+    /// Moves the values and the weights of the lines.
+    fn update_lines(&mut self, change: i64, back: i64, weight: i64) {
+        for (line, step) in self.lines.iter_mut().zip(&self.work) {
+            if *step != 0 {
+                line.value = line.value.wrapping_sub(mul(change, *step));
+                let ratio = mul(*step, back);
                 let grown = mul(mul(ratio, ratio), weight).clamp(0, HEAVY);
                 line.weight = line.weight.max(grown);
-                self.touched.push(Touched {
-                    line: place,
-                    step: line.step,
-                })?;
-            }
-            place = place.wrapping_add(1);
-        }
-        Ok(())
-    }
-
-    /// The inverse of the basis after the pivot.
-    fn update_inverse(&mut self, leaving: usize, pivot: i64) {
-        for (column, factor) in self.inverse.iter_mut().zip(&self.rho) {
-            if *factor != 0 {
-                let own = div(*factor, pivot);
-                for touched in &self.touched {
-                    if let Some(x) = column.get_mut(touched.line as usize) {
-                        *x = x.wrapping_sub(mul(own, touched.step));
-                    }
-                }
-                if let Some(x) = column.get_mut(leaving) {
-                    *x = own;
-                }
             }
         }
     }
 
-    fn pivot(&mut self, leaving: usize, miss: i64, chosen: &Entering) -> Result<(), AllocError> {
-        self.enter_column(chosen.head);
-        let start = self.start_of(chosen.head);
+    /// A variable enters for a line: whether it could.
+    fn pivot(&mut self, leaving: usize, head: Head) -> Result<bool, AllocError> {
+        self.flip();
+        self.take_column(head);
+        let step = at(&self.work, narrow(leaving));
+        let start = self.start_of(head);
         let Some(line) = self.lines.get(leaving).copied() else {
-            return Ok(());
+            return Ok(false);
         };
-        let change = div(miss, line.step);
-        let ratio = div(chosen.reduced, line.step);
+        if step.wrapping_abs() < TINY {
+            return Ok(false);
+        }
+        let below = line.low.wrapping_sub(line.value);
+        let above = line.value.wrapping_sub(line.high);
+        let miss = if below > above {
+            below.wrapping_neg()
+        } else {
+            above
+        };
+        let change = div(miss, step);
+        let ratio = div(self.reduced_of(head), step);
         self.update_reduced(ratio);
-        self.put(chosen.head, State::Basic, 0);
-        let bound = if miss > 0 { State::High } else { State::Low };
+        self.put(head, State::Basic, 0);
+        let bound = state_at(line.low, line.high, miss);
         self.put(line.head, bound, ratio.wrapping_neg());
-        self.update_lines(leaving, change, line.step, line.weight)?;
-        self.update_inverse(leaving, line.step);
-        let back = div(ONE, line.step);
+        let back = div(ONE, step);
+        self.update_lines(change, back, line.weight);
+        self.factors.change(narrow(leaving), &self.work)?;
         if let Some(to) = self.lines.get_mut(leaving) {
-            to.head = chosen.head;
+            to.head = head;
             to.value = start.value.wrapping_add(change);
             to.low = start.low;
             to.high = start.high;
             to.weight = mul(mul(back, back), line.weight).clamp(ONE, HEAVY);
         }
-        Ok(())
+        Ok(true)
     }
 }

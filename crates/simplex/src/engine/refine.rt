@@ -1,11 +1,102 @@
-//! Values and duals found anew, by residuals.
-use super::fixed::{ONE, mul};
-use super::{Engine, Head, State, dot};
+//! The basis factored anew, and values and duals by residuals.
+use super::factoring::{Factoring, NONE};
+use super::fixed::ONE;
+use super::lists::{Lists, narrow};
+use super::{Engine, Head, Line, State, dot};
+use std::alloc::{AllocError, Global};
 
 // how far duals go along a ray, in units, at their greatest
 const LONG: i64 = 288_230_376_151_711_744;
 
 impl Engine {
+    /// Factors the basis anew. Each line goes to the row of its pivot. Where a column has none, being made of others, it
+    /// leaves the basis, and a row without a line takes its slack in.
+    pub fn factor(&mut self, alloc: Global) -> Result<(), AllocError> {
+        let count = self.lines.len();
+        let columns = self.basis(alloc)?;
+        let made = Factoring::of(alloc, columns, count)?;
+        let Factoring {
+            factors,
+            line_of,
+            done,
+            ..
+        } = made;
+        self.factors = factors;
+        for (line, has) in (0..count).zip(&done) {
+            if !*has {
+                self.drop_line(line);
+            }
+        }
+        let mut lines = Vec::with_capacity(alloc, count)?;
+        for (row, line) in (0..count).zip(&line_of) {
+            if *line == NONE {
+                lines.push(self.slack_line(row))?;
+                self.factors.order.push(narrow(row))?;
+            } else if let Some(old) = self.lines.get(*line as usize) {
+                lines.push(*old)?;
+            }
+        }
+        self.lines = lines;
+        Ok(())
+    }
+
+    /// The columns of the basis, line by line.
+    fn basis(&self, alloc: Global) -> Result<Lists, AllocError> {
+        let mut columns = Lists::new(alloc, self.lines.len())?;
+        let mut place: u32 = 0;
+        for line in &self.lines {
+            match line.head {
+                Head::Column(j) => {
+                    if let Some(pair) = self.pairs.get(j as usize) {
+                        for entry in &pair.entries {
+                            columns.push(entry.row, entry.coef.wrapping_mul(ONE))?;
+                        }
+                    }
+                }
+                Head::Slack(i) => {
+                    columns.push(i, ONE)?;
+                }
+            }
+            columns.close(place);
+            place = place.wrapping_add(1);
+        }
+        Ok(columns)
+    }
+
+    /// Takes the variable of a line out of the basis, to its least value.
+    fn drop_line(&mut self, line: usize) {
+        if let Some(old) = self.lines.get(line).copied() {
+            let state = if old.low == old.high {
+                State::Held
+            } else {
+                State::Low
+            };
+            self.put(old.head, state, 0);
+        }
+    }
+
+    /// A line of a row's slack, which goes into the basis.
+    fn slack_line(&mut self, row: usize) -> Line {
+        let head = Head::Slack(narrow(row));
+        self.put(head, State::Basic, 0);
+        match self.slacks.get(row) {
+            Some(slack) => Line {
+                head,
+                value: slack.value,
+                low: slack.low,
+                high: slack.high,
+                weight: ONE,
+            },
+            None => Line {
+                head,
+                value: 0,
+                low: 0,
+                high: 0,
+                weight: ONE,
+            },
+        }
+    }
+
     /// Hands the lines' values to their variables.
     fn tell_values(&mut self) {
         for line in self.lines.iter() {
@@ -24,15 +115,15 @@ impl Engine {
         }
     }
 
-    /// What each row lacks, into `rho`.
+    /// What each row lacks, into `work`.
     fn row_residuals(&mut self) {
-        for (to, slack) in self.rho.iter_mut().zip(&self.slacks) {
+        for (to, slack) in self.work.iter_mut().zip(&self.slacks) {
             *to = slack.rhs.wrapping_sub(slack.value);
         }
         for pair in self.pairs.iter() {
             if pair.value != 0 {
                 for entry in &pair.entries {
-                    if let Some(to) = self.rho.get_mut(entry.row as usize) {
+                    if let Some(to) = self.work.get_mut(entry.row as usize) {
                         *to = to.wrapping_sub(entry.coef.wrapping_mul(pair.value));
                     }
                 }
@@ -44,22 +135,17 @@ impl Engine {
     pub fn mend_values(&mut self) {
         self.tell_values();
         self.row_residuals();
-        for (column, lack) in self.inverse.iter().zip(&self.rho) {
-            if *lack != 0 {
-                for (line, x) in self.lines.iter_mut().zip(column) {
-                    if *x != 0 {
-                        line.value = line.value.wrapping_add(mul(*x, *lack));
-                    }
-                }
-            }
+        self.factors.forward(&mut self.work);
+        for (line, x) in self.lines.iter_mut().zip(&self.work) {
+            line.value = line.value.wrapping_add(*x);
         }
         self.tell_values();
     }
 
-    /// What the reduced cost of each line's variable lacks to be 0, into its step.
+    /// What the reduced cost of each line's variable lacks to be 0, into `work`.
     fn cost_residuals(&mut self, noisy: bool) {
-        for line in self.lines.iter_mut() {
-            line.step = match line.head {
+        for (line, to) in self.lines.iter().zip(self.work.iter_mut()) {
+            *to = match line.head {
                 Head::Column(j) => match self.pairs.get(j as usize) {
                     Some(pair) => {
                         let noise = if noisy { pair.noise } else { 0 };
@@ -81,14 +167,9 @@ impl Engine {
     fn mend_duals(&mut self, noisy: bool, times: u32) {
         for _ in 0..times {
             self.cost_residuals(noisy);
-            for (dual, column) in self.duals.iter_mut().zip(&self.inverse) {
-                let mut sum: i64 = 0;
-                for (line, x) in self.lines.iter().zip(column) {
-                    if line.step != 0 && *x != 0 {
-                        sum = sum.wrapping_add(mul(line.step, *x));
-                    }
-                }
-                *dual = dual.wrapping_add(sum);
+            self.factors.backward(&mut self.work);
+            for (dual, x) in self.duals.iter_mut().zip(&self.work) {
+                *dual = dual.wrapping_add(*x);
             }
         }
     }
@@ -96,15 +177,15 @@ impl Engine {
     /// Reduced costs anew; a column on the wrong side goes to its other bound, and the values follow.
     pub fn refresh(&mut self) {
         self.mend_duals(true, 2);
-        for pair in self.pairs.iter_mut() {
-            if pair.state != State::Basic {
-                pair.reduced = pair
+        for (pair, rate) in self.pairs.iter_mut().zip(self.rates.iter_mut()) {
+            if rate.state != State::Basic {
+                rate.reduced = pair
                     .cost
                     .wrapping_add(pair.noise)
                     .wrapping_sub(dot(&pair.entries, &self.duals));
-                if pair.low == 0 {
-                    let high = pair.reduced < 0;
-                    pair.state = if high { State::High } else { State::Low };
+                if !pair.held {
+                    let high = rate.reduced < 0;
+                    rate.state = if high { State::High } else { State::Low };
                     pair.value = if high { ONE } else { 0 };
                 }
             }

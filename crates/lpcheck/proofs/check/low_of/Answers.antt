@@ -1,4 +1,4 @@
-use Rattle.std.proofs.Common.{◌≡◌, ℤ, pos, length, get_or, to_z, of_z, ap, ◌<◌, arith}
+use Rattle.std.proofs.Common.{◌≡◌, pos, length, get_or, to_z, of_z, ap, ◌<◌, arith}
 use Rattle.std.specs.Int.{w128}
 use Rattle.std.proofs.lemmas.Int.{ints}
 use Rattle.lpcheck.specs.Rows.{term}

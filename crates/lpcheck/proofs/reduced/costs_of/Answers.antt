@@ -1,4 +1,4 @@
-use Rattle.std.proofs.Common.{ℕ, ◌<◌, ◌^◌, get_or, rules, arith}
+use Rattle.std.proofs.Common.{◌<◌, ◌^◌, get_or, rules, arith}
 use Rattle.std.proofs.lemmas.Int.{ints}
 use Rattle.std.proofs.lemmas.List.Elements.{All-more}
 use Rattle.lpcheck.specs.Rows.{IsCheap}

@@ -1,9 +1,9 @@
-use Rattle.std.proofs.Common.{◌≡◌, ℕ, ◌≤◌, ◌≤ℤ◌, ◌<ℤ◌, ◌-ℤ◌, ◌^◌, ℤ, pos, List, length, map, get_or, to_z, of_z, w64, ap, sym, subst, ◌∙◌, arith}
+use Rattle.std.proofs.Common.{◌≡◌, ℕ, ◌≤◌, ◌≤ℤ◌, ◌<ℤ◌, ◌-ℤ◌, ◌^◌, ℤ, pos, List, length, get_or, to_z, of_z, w64, ap, sym, subst, ◌∙◌, arith}
 use Rattle.std.specs.List.{All}
 use Rattle.std.proofs.lemmas.Int.{ints}
 use Rattle.std.proofs.lemmas.List.{length-map}
 use Rattle.lpcheck.specs.Sizes.{IsWithin}
-use Rattle.lpcheck.specs.Rows.{signed, reduced}
+use Rattle.lpcheck.specs.Rows.{signed}
 use Rattle.lpcheck.specs.Rests.{IsDual}
 use Rattle.lpcheck.specs.Cells.{cells_from, AreWithin}
 use Rattle.lpcheck.specs.Steps.{pieces_gain, step_gain}
@@ -11,7 +11,7 @@ use Rattle.lpcheck.specs.declared.cells.Cell.{Cell}
 use Rattle.lpcheck.specs.declared.piece.Piece.{Piece}
 use Rattle.lpcheck.proofs.Bounds.{duals_within, costs_within}
 use Rattle.lpcheck.proofs.CellLemmas.{cells_at, cells_within, cells_few}
-use Rattle.lpcheck.proofs.Sweeps.{Tells, tells_row, costs_step, lower_step, row_rests, duals_step}
+use Rattle.lpcheck.proofs.Sweeps.{tells_row, costs_step, lower_step, row_rests, duals_step}
 use Rattle.lpcheck.proofs.rest.improve_row.Goals as goal
 use Rattle.lpcheck.proofs.rest.improve_row.Goals.{After-list-cells}
 

@@ -1,4 +1,4 @@
-use Rattle.std.proofs.Common.{◌^◌, ℤ, List, ap, sym, subst, ◌∙◌, arith}
+use Rattle.std.proofs.Common.{◌^◌, ap, sym, subst, ◌∙◌, arith}
 use Rattle.std.specs.List.{All}
 use Rattle.std.proofs.lemmas.Int.{ints}
 use Rattle.lpcheck.specs.Sizes.{IsWithin}

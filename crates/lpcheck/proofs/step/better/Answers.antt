@@ -1,7 +1,5 @@
-use Rattle.std.proofs.Common.{ℤ, ◌≡◌, arith, inr, ap, sym, subst, ◌∙◌, to_z, of_z, w64}
+use Rattle.std.proofs.Common.{ℤ, ◌≡◌, arith, inr, ap, to_z, of_z, w64}
 use Rattle.std.proofs.lemmas.Int.{ints}
-use Rattle.std.specs.Int.{w128}
-use Rattle.lpcheck.specs.Rests.{IsDual}
 use Rattle.lpcheck.specs.Steps.{step_gain}
 use Rattle.lpcheck.proofs.BestSteps.{seen_more}
 use Rattle.lpcheck.proofs.step.better.Goals as goal

@@ -1,4 +1,4 @@
-use Rattle.std.proofs.Common.{arith, ℤ, to_z, of_z, w64}
+use Rattle.std.proofs.Common.{arith, to_z, of_z, w64}
 use Rattle.std.proofs.lemmas.Int.{ints}
 use Rattle.lpcheck.proofs.Sums.{pieces_more}
 use Rattle.lpcheck.proofs.step.gain_of.Goals as goal

@@ -1,4 +1,4 @@
-use Rattle.std.proofs.Common.{◌≡◌, take, drop, length, ℤ, ◌+ℤ◌}
+use Rattle.std.proofs.Common.{◌≡◌, drop, length, ℤ, ◌+ℤ◌}
 use Rattle.lpcheck.specs.Steps.{pieces_gain, cells_gain}
 use Rattle.lpcheck.proofs.step.pieces_of.Given as goal
 

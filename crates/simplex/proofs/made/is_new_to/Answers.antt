@@ -1,11 +1,10 @@
-use Rattle.std.proofs.Common.{◌≡◌, ℕ, Bool, ◌||◌, ℤ, List, length, map, take, drop, ap, sym, ◌∙◌}
+use Rattle.std.proofs.Common.{ℕ, Bool, ◌||◌, ℤ, List, length, take, drop, ap, sym, ◌∙◌}
 use Rattle.std.proofs.lemmas.List.{take-map, drop-map}
 use Rattle.lpcheck.specs.Rows.{reduced}
 use Rattle.lpcheck.specs.Cells.{cells_of}
 use Rattle.lpcheck.specs.Added.{any_missed, any_negative, any_below}
 use Rattle.lpcheck.specs.declared.cells.Cell.{Cell}
 use Rattle.lpcheck.proofs.Bounds.{duals_within}
-use Rattle.simplex.specs.Columns.{values_at}
 use Rattle.simplex.proofs.DualLemmas.{negative_is}
 use Rattle.simplex.proofs.made.is_new_to.Goals as goal
 

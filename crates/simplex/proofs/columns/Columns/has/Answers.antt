@@ -1,4 +1,4 @@
-use Rattle.std.proofs.Common.{◌≡◌, ◌<◌, ℕ, map, not, nat_eq, ap, sym, subst, ◌∙◌}
+use Rattle.std.proofs.Common.{◌<◌, ℕ, map, not, nat_eq, ap, sym, subst, ◌∙◌}
 use Rattle.cyc.specs.Frac.{is_listed, value_of}
 use Rattle.cyc.proofs.EntryLemmas.{mark_read}
 use Rattle.simplex.specs.Columns.{Pairs, blank, is_col}
