@@ -10,14 +10,15 @@ top=$(cd "$(dirname "$0")/.." && pwd)
 . "$top/bench/workspace.sh"
 workspace flowbench 'cyc simplex maxflow sepsub anyhow'
 cat >"$work/crates/flowbench/src/main.rt" <<'RT'
-//! flowbench drawn N: the least weight, and in microseconds the sweep and the plain flows, whose least is the same.
+//! flowbench drawn N: the least weight, in microseconds the least set alone, the sets of a sweep, and in microseconds the sweep
+//! and, up to 1000, the plain flows, whose least is the same.
 //! flowbench rounds N: rounds, sets, the longest sweep, all sweeps and all solves in microseconds, and the last least weight.
 #![tactic(auto)]
 
 use anyhow::{Result, bail};
 use cyc::{CitySet, Entry, Frac};
 use maxflow::flow;
-use sepsub::sweep;
+use sepsub::{least_set, sweep};
 use simplex::{Lp, LpAnswer, Row, Sense};
 use std::alloc::Global;
 use std::env;
@@ -52,6 +53,9 @@ fn run_drawn(rt: HostRuntime, n: u32) -> Result<()> {
     let alloc = rt.alloc();
     let x = drawn(alloc, n)?;
     let from = Instant::now(&rt)?;
+    let least = least_set(alloc, &x)?;
+    let alone = from.elapsed(&rt)?.as_micros();
+    let from = Instant::now(&rt)?;
     let swept = sweep(alloc, &x)?;
     let sweeping = from.elapsed(&rt)?.as_micros();
     let from = Instant::now(&rt)?;
@@ -60,12 +64,12 @@ fn run_drawn(rt: HostRuntime, n: u32) -> Result<()> {
         for t in 1..x.n() {
             plain = plain.min(flow(alloc, &x, 0, t)?.value);
         }
-        if plain != swept.least.weight {
+        if plain != swept.least.weight || plain != least.weight {
             bail!("the two differ");
         }
     }
     let plainly = from.elapsed(&rt)?.as_micros();
-    println!(rt; "{n} {} {} {sweeping} {plainly}", swept.least.weight, swept.sets.len())?;
+    println!(rt; "{n} {} {alone} {} {sweeping} {plainly}", swept.least.weight, swept.sets.len())?;
     Ok(())
 }
 
@@ -174,8 +178,8 @@ echo "building .." >&2
 (cd "$work/crates/flowbench" && rt fmt >/dev/null 2>&1; rt run -- drawn 20 >"$work/log" 2>&1 || true)
 program=$work/crates/flowbench/out/flowbench
 [ -x "$program" ] || { cat "$work/log" >&2; exit 1; }
-columns='%6s %12s %6s %12s %12s\n'
-printf "$columns" n least sets 'sweep (us)' 'plain (us)'
+columns='%6s %12s %12s %6s %12s %12s\n'
+printf "$columns" n least 'alone (us)' sets 'sweep (us)' 'plain (us)'
 for n in 200 500 1000 2000; do printf "$columns" $(${RUN:-} "$program" drawn $n); done
 columns='%6s %7s %6s %13s %13s %13s %10s\n'
 printf "\n$columns" n rounds sets 'longest (us)' 'sweeps (us)' 'solves (us)' least

@@ -3,7 +3,7 @@
 //! The stops are the cities that are done, at first city 0 alone. A flow runs from the next city to the stops, and ends at
 //! the least set that holds the city and no stop; then the city is a stop too. Each set without city 0 is met at the first
 //! of its cities that is taken, so the best of the sides is the least of all. A flow is given up once it is neither better
-//! than the best so far nor light. The next city is the one of the greatest value to the stops, as in the orders of Nagamochi
+//! than the best so far nor below a reach: with [`LIGHT`] every light side is found, with 0 only what is better. The next city is the one of the greatest value to the stops, as in the orders of Nagamochi
 //! and Ibaraki 1992 and Stoer and Wagner 1997: its flow is short. Nothing but speed rests on that choice.
 ghost use Rattle.std.specs.Prelude.{◌≡◌, ◌≢◌, ◌<◌, ◌≤◌, ℕ, true, false, length, slice_set, IfOk, MatchOption};
 ghost use Rattle.maxflow.specs.Flows.{is_stop};
@@ -21,8 +21,9 @@ pub struct Found {
     pub sets: Vec<CitySet>,
 }
 
-/// The least side of all that do not hold city 0, and light ones.
-pub fn grown(alloc: Global, network: &Network) -> Result<Found, AllocError>
+/// The least side of all that do not hold city 0, and light ones. A flow is given up where it is neither better than the best
+/// so far nor below `reach`.
+pub fn grown(alloc: Global, network: &Network, reach: u64) -> Result<Found, AllocError>
     ensures { IfOk result (λ f. IsFoundOfAll network.now f) }
 {
     let n = network.n();
@@ -34,7 +35,7 @@ pub fn grown(alloc: Global, network: &Network) -> Result<Found, AllocError>
     network.add_values(0, &mut keys);
     network.add_values(1, &mut keys);
     while let Some(t) = choose(&stops, &keys) {
-        found = next_found(alloc, network, t, &stops, found)?;
+        found = next_found(alloc, network, t, &stops, found, reach)?;
         stops[t as usize] = true;
         network.add_values(t, &mut keys);
     }
@@ -61,6 +62,7 @@ fn next_found(
     t: u32,
     stops: &[bool],
     found: Found,
+    reach: u64,
 ) -> Result<Found, AllocError>
     requires inside { t < network.now.n }
     requires all { length stops.now ≡ network.now.n }
@@ -69,7 +71,7 @@ fn next_found(
     requires so_far { IsFound network.now stops.now found }
     ensures { IfOk result (λ f. IsFound network.now (slice_set stops.now t true) f) }
 {
-    match network.flow_below(alloc, t, stops, found.best.value.max(LIGHT))? {
+    match network.flow_below(alloc, t, stops, found.best.value.max(reach))? {
         Some(side) => {
             let sets = kept(alloc, found.sets, &side)?;
             if side.value < found.best.value {

@@ -39,7 +39,7 @@ pub struct Swept {
 pub fn least_set(alloc: Global, x: &Frac) -> Result<LeastSet, AllocError>
     ensures { IfOk result (λ l. IsLeastSet x.now l) }
 {
-    let swept = sweep(alloc, x)?;
+    let swept = swept_to(alloc, x, 0)?;
     Ok(swept.least)
 }
 
@@ -48,6 +48,15 @@ pub fn least_set(alloc: Global, x: &Frac) -> Result<LeastSet, AllocError>
 /// Where the pairs of positive value do not join all cities, the sets are their components but one, and that of city 0 is a
 /// least set. Otherwise flows run into a growing set of cities (`growth`), and each side below [`LIGHT`] is kept.
 pub fn sweep(alloc: Global, x: &Frac) -> Result<Swept, AllocError>
+    ensures least { IfOk result (λ s. IsLeastSet x.now s.least) }
+    ensures sets { IfOk result (λ s. All (IsViolated x.now) s.sets.items) }
+    ensures some { IfOk result (λ s. s.least.weight < LIGHT → 0 < length s.sets.items) }
+{
+    swept_to(alloc, x, LIGHT)
+}
+
+/// The same, where flows that are neither better than the best so far nor below `reach` are given up.
+fn swept_to(alloc: Global, x: &Frac, reach: u64) -> Result<Swept, AllocError>
     ensures least { IfOk result (λ s. IsLeastSet x.now s.least) }
     ensures sets { IfOk result (λ s. All (IsViolated x.now) s.sets.items) }
     ensures some { IfOk result (λ s. s.least.weight < LIGHT → 0 < length s.sets.items) }
@@ -62,7 +71,7 @@ pub fn sweep(alloc: Global, x: &Frac) -> Result<Swept, AllocError>
         };
         return Ok(Swept { least, sets });
     }
-    let found = growth::grown(alloc, &network)?;
+    let found = growth::grown(alloc, &network, reach)?;
     let set = sides::complement(alloc, &found.best.side)?;
     let least = LeastSet {
         weight: found.best.value,

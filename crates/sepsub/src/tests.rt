@@ -87,10 +87,10 @@ fn many_sets_are_found_at_once(rt: HostRuntime) -> Result<(), Fail> {
     let swept = sweep(rt.alloc(), &x)?;
     assert_eq!(rt; swept.least.weight, u64::from(ONE / 2 * 3));
     assert!(rt; swept.sets.len() >= 19);
-    let mut triangles = 0;
+    let mut triangles: u32 = 0;
     for set in &swept.sets {
         if set.cities().len() == 3 {
-            triangles += 1;
+            triangles = triangles.saturating_add(1);
         }
     }
     assert!(rt; triangles >= 15);
@@ -114,6 +114,6 @@ fn a_set_at_the_limit_is_no_cut(rt: HostRuntime) -> Result<(), Fail> {
     )?;
     let swept = sweep(rt.alloc(), &below)?;
     assert_eq!(rt; swept.sets.len(), 2);
-    assert_eq!(rt; swept.least.weight + 1, LIGHT);
+    assert_eq!(rt; swept.least.weight, LIGHT - 1);
     Ok(())
 }

@@ -2,7 +2,7 @@ use Rattle.std.proofs.Common.{◌≡◌, ◌<◌, ◌≤◌, ℕ, ap, refl, subs
 use Rattle.tspdef.specs.Sets.{IsProper}
 use Rattle.cyc.specs.Frac.{Values}
 use Rattle.sepsub.proofs.LeastLemmas.{home_is_least, turned_is_least, all_violated}
-use Rattle.sepsub.proofs.sweep.Goals as goal
+use Rattle.sepsub.proofs.swept_to.Goals as goal
 
 some_of : (n m : ℕ) → n ≡ m → 3 ≤ n → 0 < m
 some_of n m e h = omega arith
