@@ -97,11 +97,6 @@ impl Factors {
         self.changes.len() >= MANY
     }
 
-    /// Whether the basis is as it was factored.
-    pub fn is_fresh(&self) -> bool {
-        self.changes.is_empty()
-    }
-
     /// A line's column becomes another one, which is given in terms of the lines.
     pub fn change(&mut self, line: u32, column: &[i64]) -> Result<(), AllocError> {
         let mut place: u32 = 0;
