@@ -1,7 +1,7 @@
 #!/usr/bin/env bash
 # Times the simplex on root programs, of drawn points and of instances: degree rows over ten near pairs a city, then the
 # subtour rows that the parts of the values ask for, and all pairs of negative reduced cost. Outside the gate. Prints a table;
-# figures go into docs/SIMPLEX-FIGURES.md.
+# figures go into docs/PERFORMANCE.md.
 #
 #   bench/simplex.sh [N | INSTANCE.tsp ..]     by default drawn points, and each instance of ../shared/instances
 set -eu
