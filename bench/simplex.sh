@@ -1,5 +1,5 @@
 #!/usr/bin/env bash
-# Times the simplex on root programs, of drawn points and of instances: degree rows over ten near pairs a city, then the
+# Times the simplex, by processor time, on root programs of drawn points and of instances: degree rows over ten near pairs a city, then the
 # subtour rows that the parts of the values ask for, and all pairs of negative reduced cost. Outside the gate. Prints a table;
 # figures go into docs/PERFORMANCE.md.
 #
@@ -192,7 +192,7 @@ use cyc::CitySet;
 use simplex::{Lp, LpAnswer, Row, Sense};
 use std::alloc::Global;
 use std::env;
-use std::time::Instant;
+use std::time::CpuClock;
 
 fn put_set(alloc: Global, lp: &mut Lp, sense: Sense, cities: Vec<u32>) -> Result<()> {
     let n = lp.n();
@@ -323,9 +323,9 @@ fn run(rt: HostRuntime, n: u32, d: &[u32]) -> Result<()> {
     let mut times: Vec<u128> = Vec::new(alloc);
     let mut rough = 0u32;
     for round in 0..200u32 {
-        let from = Instant::now(&rt)?;
+        let from = rt.thread_cpu_time()?;
         lp.solve(alloc, 100_000)?;
-        let micros = from.elapsed(&rt)?.as_micros();
+        let micros = rt.thread_cpu_time()?.saturating_sub(from).as_micros();
         spent = spent.wrapping_add(micros);
         times.push(micros)?;
         if !matches!(lp.last(), Some(LpAnswer::Solved { .. })) {
@@ -348,9 +348,9 @@ fn run(rt: HostRuntime, n: u32, d: &[u32]) -> Result<()> {
             break;
         }
     }
-    let from = Instant::now(&rt)?;
+    let from = rt.thread_cpu_time()?;
     lp.solve(alloc, 100_000)?;
-    let idle = from.elapsed(&rt)?.as_micros();
+    let idle = rt.thread_cpu_time()?.saturating_sub(from).as_micros();
     let xs = values(alloc, &lp)?;
     let value = cost(&lp, &xs);
     let rounds = lp.rounds();
