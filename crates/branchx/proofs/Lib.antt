@@ -1,2 +1,4 @@
 pub mod PathLemmas
 pub mod TableLemmas
+pub mod BestLemmas
+pub mod FitLemmas

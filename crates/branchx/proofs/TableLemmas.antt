@@ -7,7 +7,7 @@ use Rattle.tspdef.specs.Tours.{joins}
 use Rattle.tspdef.specs.Paths.{is_decided, IsPair}
 use Rattle.branchx.specs.declared.cond.Cond.{Cond}
 use Rattle.branchx.specs.Cond.{condition_of, conditions_of, decides}
-use Rattle.branchx.specs.Choice.{tabled}
+use Rattle.branchx.specs.Table.{tabled}
 use Rattle.branchx.proofs.PathLemmas.{is_decided-push, conditions-more}
 
 -- a step joins a pair exactly where it is the pair, when both name the lower city first

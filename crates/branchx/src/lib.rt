@@ -6,7 +6,10 @@
 mod branch;
 mod choice;
 mod cond;
+mod fit;
+mod nearest;
 mod path;
+mod table;
 
 pub use branch::Branch;
 pub use choice::choose;

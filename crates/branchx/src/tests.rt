@@ -1,7 +1,7 @@
 ghost use Rattle.std.specs.Prelude.{◌≡◌, ◌≤◌, IfOk};
 
 use crate::{Branch, Cond, Path, choose, decided, is_new};
-use cyc::{CitySet, Frac};
+use cyc::{CitySet, Entry, Frac};
 use std::alloc::Global;
 use std::test::Fail;
 
@@ -38,6 +38,41 @@ fn a_split_where_a_pair_is_open(rt: HostRuntime) -> Result<(), Fail> {
     assert_eq!(rt; choose(alloc, &x, &path)?, Some(Branch::Edge(1, 2)));
     path.push(Cond::Absent(1, 2))?;
     assert_eq!(rt; choose(alloc, &x, &path)?, None);
+    Ok(())
+}
+
+/// Two triangles of halves, joined by three whole pairs.
+fn prism(alloc: Global) -> Result<Frac, Fail>
+    ensures { IfOk result (λ x. x.n ≡ 6) }
+{
+    let half = 0x8_0000;
+    let mut entries = Vec::new(alloc);
+    for (u, v) in [(0u32, 1u32), (0, 2), (1, 2), (3, 4), (3, 5), (4, 5)] {
+        entries.push(Entry { u, v, x: half })?;
+    }
+    for u in 0..3u32 {
+        entries.push(Entry {
+            u,
+            v: u + 3,
+            x: 2 * half,
+        })?;
+    }
+    Ok(Frac::new(alloc, 6, entries)?)
+}
+
+#[test]
+fn a_triangle_is_asked_once(rt: HostRuntime) -> Result<(), Fail> {
+    let alloc = rt.alloc();
+    let x = prism(alloc)?;
+    let mut path = Path::new(alloc, 6);
+    let first = choose(alloc, &x, &path)?;
+    let triangle = set(alloc, 6, &[0, 1, 2])?;
+    assert!(rt; first == Some(Branch::Clique(triangle)));
+    let asked = set(alloc, 6, &[0, 1, 2])?;
+    assert!(rt; asked.is_proper());
+    path.push(Cond::Two(asked))?;
+    let second = choose(alloc, &x, &path)?;
+    assert!(rt; second == Some(Branch::Edge(0, 1)));
     Ok(())
 }
 

@@ -157,6 +157,8 @@ ends_at names slots i status.Optimal t u v r f =
     }
 ends_at names slots i status.Verified t u v r f = absurd f
 ends_at names slots i status.Toured t u v r f = absurd f
+ends_at names slots i status.Benched t u v r f = absurd f
+ends_at names slots i status.BenchStopped t u v r f = absurd f
 ends_at names slots i status.Usage t u v r f = absurd f
 ends_at names slots i status.BadInstance t u v r f = absurd f
 ends_at names slots i status.Refused t u v r f = absurd f

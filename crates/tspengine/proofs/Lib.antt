@@ -4,3 +4,4 @@ mod Writing
 mod Ends
 mod Verifying
 mod Tours
+pub mod DrawnRuns

@@ -5,7 +5,7 @@ use Rattle.ports.specs.Outside.{BothTell, Cause}
 use Rattle.ports.specs.Desk.{Told}
 use Rattle.ports.specs.Slots.{SlotsTold}
 use Rattle.clap.specs.Walk.{Text}
-use Rattle.tspwords.specs.Program.{IsSolveCall, IsTourCall, IsVerifyCall}
+use Rattle.tspwords.specs.Program.{IsSolveCall, IsTourCall, IsVerifyCall, IsBenchCall}
 use Rattle.tspwords.specs.Says.{SaysVerify}
 use Rattle.tspwords.specs.declared.words.VerifyWords.{VerifyWords}
 use Rattle.verification.specs.Runs as checks
@@ -15,6 +15,7 @@ use Rattle.verification.specs.declared.statuses.VerifyStatus.TheVariants as chec
 use Rattle.verification.proofs.Tells.{both_to, both_same}
 use Rattle.verification.proofs.Outcomes.{at_status}
 use Rattle.tspengine.specs.Names.{Names, names_of, paths_of}
+use Rattle.tspengine.specs.Benches.{IsBenchStatus}
 use Rattle.tspengine.specs.Readings.{status_of}
 use Rattle.tspengine.specs.Runs.{IsRefusedRun, TakesNothing, EndsSlots, IsSilent, IsSolveStatus, IsSlotted, IsJudged, IsVerified}
 use Rattle.tspengine.specs.declared.statuses.Status.{Status}
@@ -27,6 +28,8 @@ abbrev pub checked_of : Status → VerifyStatus
 checked_of status.Optimal = checked.NoMemory
 checked_of status.Verified = checked.Verified
 checked_of status.Toured = checked.NoMemory
+checked_of status.Benched = checked.NoMemory
+checked_of status.BenchStopped = checked.NoMemory
 checked_of status.Usage = checked.Usage
 checked_of status.BadInstance = checked.BadInstance
 checked_of status.Refused = checked.Refused
@@ -89,6 +92,18 @@ never_stored s v is e = let f : status.NoMemory ≡ status.StoreFault = moved s 
 pub never_toured : (s : Status) (v : VerifyStatus) → s ≡ status_of v → s ≡ status.Toured → ⊥
 never_toured s v is e = let f : status.NoMemory ≡ status.Toured = moved s v status.Toured is e in cc
 
+pub never_benched : (s : Status) (v : VerifyStatus) → s ≡ status_of v → s ≡ status.Benched → ⊥
+never_benched s v is e = let f : status.NoMemory ≡ status.Benched = moved s v status.Benched is e in cc
+
+pub never_bench_stopped : (s : Status) (v : VerifyStatus) → s ≡ status_of v → s ≡ status.BenchStopped → ⊥
+never_bench_stopped s v is e = let f : status.NoMemory ≡ status.BenchStopped = moved s v status.BenchStopped is e in cc
+
+pub never_benches : (s : Status) (v : VerifyStatus) → s ≡ status_of v → IsBenchStatus s → ⊥
+never_benches s v is which = elim which [
+  | inl e ↦ never_benched s v is e
+  | inr e ↦ never_bench_stopped s v is e
+]
+
 pub never_solves : (s : Status) (v : VerifyStatus) → s ≡ status_of v → IsSolveStatus s → ⊥
 never_solves s v is which = elim which [
   | inl e ↦ never_optimal s v is e
@@ -131,6 +146,9 @@ one_call words solve verify = let e : codes "solve" ≡ codes "verify" = sym sol
 
 pub no_tour_call : (words : List Text) → IsTourCall words → IsVerifyCall words → ⊥
 no_tour_call words tour verify = let e : codes "tour" ≡ codes "verify" = sym tour.named ∙ verify.named in cc
+
+pub no_bench_call : (words : List Text) → IsBenchCall words → IsVerifyCall words → ⊥
+no_bench_call words bench verify = let e : codes "bench" ≡ codes "verify" = sym bench.named ∙ verify.named in cc
 
 pub same_paths : (words : List Text) (v : VerifyWords) → SaysVerify words v → paths_in v ≡ paths_of words
 same_paths words v says = ap (λ (x : List ℕ). record { instance = x; proof = string_bytes v.proof }) says.instance

@@ -46,6 +46,8 @@ abbrev pub IsAnswer : ℕ → List ℕ → Option SlotsTold → Status → List 
 IsAnswer budget bytes slots status.Optimal proof printed = IsOptimalAnswer bytes proof printed
 IsAnswer budget bytes slots status.Verified proof printed = ⊥
 IsAnswer budget bytes slots status.Toured proof printed = IsTouredAnswer bytes proof printed
+IsAnswer budget bytes slots status.Benched proof printed = ⊥
+IsAnswer budget bytes slots status.BenchStopped proof printed = ⊥
 IsAnswer budget bytes slots status.Usage proof printed = ⊥
 IsAnswer budget bytes slots status.BadInstance proof printed = IsRefusedAnswer bytes proof printed
 IsAnswer budget bytes slots status.Refused proof printed = ⊥

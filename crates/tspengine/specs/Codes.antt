@@ -7,10 +7,12 @@ abbrev pub code_of : Status → ℕ
 code_of status.Optimal = 0
 code_of status.Verified = 0
 code_of status.Toured = 0
+code_of status.Benched = 0
 code_of status.Usage = 2
 code_of status.BadInstance = 3
 code_of status.Refused = 4
 code_of status.Stopped = 5
+code_of status.BenchStopped = 5
 code_of status.ReadFault = 6
 code_of status.WriteFault = 7
 code_of status.StoreFault = 8

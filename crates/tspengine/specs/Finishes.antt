@@ -45,6 +45,8 @@ abbrev pub Finishes : Names → Instance → Option SlotsTold → Status → Tol
 Finishes names i slots status.Optimal t u = FinishesOptimal names i t u
 Finishes names i slots status.Verified t u = ⊥
 Finishes names i slots status.Toured t u = ⊥
+Finishes names i slots status.Benched t u = ⊥
+Finishes names i slots status.BenchStopped t u = ⊥
 Finishes names i slots status.Usage t u = ⊥
 Finishes names i slots status.BadInstance t u = ⊥
 Finishes names i slots status.Refused t u = ⊥
@@ -59,6 +61,8 @@ abbrev pub SavesAt : Status → SlotsTold → SlotsTold → Type 0
 SavesAt status.Optimal t u = u ≡ t
 SavesAt status.Verified t u = ⊥
 SavesAt status.Toured t u = ⊥
+SavesAt status.Benched t u = ⊥
+SavesAt status.BenchStopped t u = ⊥
 SavesAt status.Usage t u = ⊥
 SavesAt status.BadInstance t u = ⊥
 SavesAt status.Refused t u = ⊥

@@ -7,3 +7,4 @@ pub mod Transfers
 pub mod Readings
 pub mod Finishes
 pub mod Runs
+pub mod Benches

@@ -152,6 +152,8 @@ abbrev pub IsEnded : (Status → Type 0) → Names → Option SlotsTold → Stat
 IsEnded Says names slots status.Optimal t u = IsOptimalRun names t u
 IsEnded Says names slots status.Verified t u = ⊥
 IsEnded Says names slots status.Toured t u = IsTouredRun names t u
+IsEnded Says names slots status.Benched t u = ⊥
+IsEnded Says names slots status.BenchStopped t u = ⊥
 IsEnded Says names slots status.Usage t u = ⊥
 IsEnded Says names slots status.BadInstance t u = IsRefusedRun names t u
 IsEnded Says names slots status.Refused t u = ⊥

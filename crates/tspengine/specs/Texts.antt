@@ -13,6 +13,10 @@ cities_text tour = flat_map city_text tour
 abbrev pub optimal_text : ℕ → List ℕ → List ℕ
 optimal_text l tour = codes "OPTIMAL " ++ decimal l ++ codes "\nTOUR" ++ cities_text tour ++ codes "\n"
 
+-- the length of a shortest tour alone
+abbrev pub length_text : ℕ → List ℕ
+length_text l = codes "OPTIMAL " ++ decimal l ++ codes "\n"
+
 -- the best length so far, and how many nodes are open
 abbrev pub stopped_text : ℕ → ℕ → List ℕ
 stopped_text best open_nodes = codes "STOPPED " ++ decimal best ++ codes " " ++ decimal open_nodes ++ codes "\n"

@@ -3,6 +3,7 @@
 //! - [`run`] reads the words, does what they say, and ends with a [`Status`].
 #![tactic(auto)]
 
+mod benching;
 mod outcomes;
 mod publishing;
 mod running;

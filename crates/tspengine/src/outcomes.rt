@@ -3,24 +3,33 @@ ghost use Rattle.std.specs.Prelude.{◌≡◌, ℕ, ◌<◌, ◌≤◌, IfOk, le
 ghost use Rattle.tspdef.specs.Trees.{open_leaves, settled};
 ghost use Rattle.treebook.specs.Tables.{tree_of};
 ghost use Rattle.certform.specs.Written.{IsBody};
-ghost use Rattle.plainsearch.specs.Searches.{IsFound};
-ghost use Rattle.tspengine.specs.Outcomes.{IsOutcome};
+ghost use Rattle.worker.specs.Splits.{IsNeededSplit};
+ghost use Rattle.treesearch.specs.Searches.{IsFound};
+ghost use Rattle.tspengine.specs.Outcomes.{IsOutcome, IsProof};
 
-use crate::texts::{optimal_text, stopped_text};
+use crate::texts::{length_text, optimal_text, stopped_text};
 use certform::{body, tables_fit, written_is_faithful};
+use grunt::LpWorker;
 use opening::find_opening;
-use plainsearch::{Found, search};
 use std::alloc::{AllocError, Global};
+use treesearch::{Found, search, searches_of_few_cities_end};
 use tspdef::{accepted_is_optimal, tours_are_cycles};
 use tspinst::Instance;
 
 /// What came of an instance, with the text to print.
 #[derive(Drop)]
 pub enum Outcome {
-    /// The proof that a tour is shortest.
-    Optimal { proof: Vec<u8>, printed: Vec<u8> },
+    /// The proof that a tour is shortest, and the line of its length alone.
+    Optimal {
+        proof: Vec<u8>,
+        printed: Vec<u8>,
+        line: Vec<u8>,
+    },
     /// The body to go on from.
-    Stopped { body: Vec<u8>, printed: Vec<u8> },
+    Stopped {
+        body: Vec<u8>,
+        printed: Vec<u8>,
+    },
 }
 
 /// Searches within a budget from the tour that a seed gives, and writes down what was found.
@@ -31,10 +40,12 @@ pub(crate) fn outcome_of(
     seed: u64,
 ) -> Result<Outcome, AllocError>
     requires { budget ≤ 65536 }
-    ensures { IfOk result (IsOutcome instance.now budget) }
+    ensures outcome { IfOk result (IsOutcome instance.now budget) }
+    ensures small { instance.now.n ≤ 5 → 2047 ≤ budget → IfOk result IsProof }
 {
+    searches_of_few_cities_end();
     let opening = find_opening(alloc, instance, seed)?;
-    let found = search(alloc, instance, opening, budget)?;
+    let found = search(alloc, instance, opening, &LpWorker, budget, seed)?;
     let body = body(alloc, instance, &found.best, &found.tree)?;
     if found.tree.open_nodes() == 0 {
         optimal(alloc, instance, &found, body)
@@ -50,11 +61,12 @@ fn optimal(
     found: &Found,
     proof: Vec<u8>,
 ) -> Result<Outcome, AllocError>
-    requires found { IsFound instance.now found.now }
+    requires found { IsFound IsNeededSplit instance.now found.now }
     requires few { length found.now.tree.nodes ≤ 1048576 }
     requires none_open { open_leaves (tree_of found.now.tree.nodes) ≡ 0 }
     requires proof { IsBody instance.now found.now.best (tree_of found.now.tree.nodes) proof.items }
-    ensures { (budget : ℕ) → IfOk result (IsOutcome instance.now budget) }
+    ensures outcome { (budget : ℕ) → IfOk result (IsOutcome instance.now budget) }
+    ensures proof { IfOk result IsProof }
 {
     accepted_is_optimal();
     tours_are_cycles();
@@ -63,7 +75,12 @@ fn optimal(
     let _known = (instance.n(), found.tree.n(), found.tree.nodes());
     let tour = found.best.canonical(alloc)?;
     let printed = optimal_text(alloc, found.length, tour.cities())?;
-    Ok(Outcome::Optimal { proof, printed })
+    let line = length_text(alloc, found.length)?;
+    Ok(Outcome::Optimal {
+        proof,
+        printed,
+        line,
+    })
 }
 
 /// The budget is settled, and a leaf of the body is open.
@@ -74,7 +91,7 @@ fn stopped(
     found: &Found,
     body: Vec<u8>,
 ) -> Result<Outcome, AllocError>
-    requires found { IsFound instance.now found.now }
+    requires found { IsFound IsNeededSplit instance.now found.now }
     requires few { length found.now.tree.nodes ≤ 1048576 }
     requires some_open { 0 < open_leaves (tree_of found.now.tree.nodes) }
     requires settled { settled (tree_of found.now.tree.nodes) ≡ budget }

@@ -15,6 +15,8 @@ pub enum Status {
     Verified,
     /// A tour of the instance was printed.
     Toured,
+    /// The proof for a drawn instance was written, and its length printed.
+    Benched,
     /// The words are not of a command's form.
     Usage,
     /// The bytes of the instance are not an instance's text.
@@ -23,6 +25,8 @@ pub enum Status {
     Refused,
     /// The budget is spent and a node is open; the slots hold a body to go on from.
     Stopped,
+    /// The budget is spent and a node is open; the body for a drawn instance was written.
+    BenchStopped,
     /// The instance, or the proof to be verified, could not be opened or read.
     ReadFault,
     /// The proof could not be opened, or it or the text not written.
@@ -39,11 +43,11 @@ impl Status {
         ensures { result ≡ code_of self }
     {
         match self {
-            Status::Optimal | Status::Verified | Status::Toured => 0,
+            Status::Optimal | Status::Verified | Status::Toured | Status::Benched => 0,
             Status::Usage => 2,
             Status::BadInstance => 3,
             Status::Refused => 4,
-            Status::Stopped => 5,
+            Status::Stopped | Status::BenchStopped => 5,
             Status::ReadFault => 6,
             Status::WriteFault => 7,
             Status::StoreFault => 8,

@@ -4,9 +4,11 @@
 ghost use Rattle.std.specs.Prelude.{◌<◌};
 
 use crate::{Status, run};
+use cyc::Tour;
 use ports::{MemDesk, MemSlots, Room, SlotCall};
 use std::alloc::{AllocError, Global};
 use std::test::Fail;
+use tspgen::make;
 use tspplain::search::least_tour;
 use tspplain::tours::tour_length;
 use tspplain::values::Instance;
@@ -189,18 +191,72 @@ fn a_spent_budget_leaves_a_body(rt: HostRuntime) -> Result<(), Fail> {
         b"\x01\0\0\0\0\0\0\0\0\x2eTSPCERT 1\nN 4\nLENGTH 40\nTOUR 1 2 3 4\nCUTS 0\nO\n".as_slice()
     );
     assert_eq!(rt; ended.slots.slot(1), b"".as_slice());
-    let split = solved(alloc, "tspc solve a b c --budget 1", SQUARE)?;
-    assert_eq!(rt; split.status, Status::Stopped);
-    assert_eq!(rt; split.text(), b"STOPPED 40 2\n".as_slice());
-    assert_eq!(rt;
-        split.slots.slot(0),
-        b"\x01\0\0\0\0\0\0\0\0\x36TSPCERT 1\nN 4\nLENGTH 40\nTOUR 1 2 3 4\nCUTS 0\nE 1 2\nO\nO\n".as_slice()
-    );
+    let closed = solved(alloc, "tspc solve a b c --budget 1", SQUARE)?;
+    assert_eq!(rt; closed.status, Status::Optimal);
+    assert_eq!(rt; closed.text(), b"OPTIMAL 40\nTOUR 1 2 3 4\n".as_slice());
     Ok(())
 }
 
 const SQUARE_TOUR: &[u8] =
     b"NAME : tour\nTYPE : TOUR\nDIMENSION : 4\nTOUR_SECTION\n1\n2\n3\n4\n-1\nEOF\n";
+
+#[test]
+fn subtour_cuts_close_a_root(rt: HostRuntime) -> Result<(), Fail> {
+    let alloc = rt.alloc();
+    let groups = solved(
+        alloc,
+        "tspc solve a b c --budget 1",
+        "TYPE : TSP\nDIMENSION : 6\nEDGE_WEIGHT_TYPE : EXPLICIT\nEDGE_WEIGHT_FORMAT : UPPER_ROW\nEDGE_WEIGHT_SECTION\n1 1 10 10 10 1 10 10 10 10 10 10 1 1 1\n",
+    )?;
+    assert_eq!(rt; groups.status, Status::Optimal);
+    assert!(rt; groups.text().starts_with(b"OPTIMAL 24\n"));
+    Ok(())
+}
+
+#[test]
+fn a_drawn_triangle_is_solved(rt: HostRuntime) -> Result<(), Fail> {
+    let alloc = rt.alloc();
+    let drawn = make(alloc, 1, 3)?;
+    let around = drawn.length(&Tour::identity(alloc, 3)?);
+    let ended = solved(alloc, "tspc bench 1 3 16 p", "")?;
+    assert_eq!(rt; ended.status, Status::Benched);
+    assert_eq!(rt;
+        ended.text(),
+        format!(in alloc; "OPTIMAL {around}\n")?.as_bytes()
+    );
+    assert!(rt; is_bound_to(ended.desk.proof_path(), b"p"));
+    assert!(rt; ended.desk.proof().starts_with(b"TSPCERT 1\nN 3\n"));
+    assert_eq!(rt; ended.slots.entries().len(), 0);
+    let again = solved(alloc, "tspc bench 1 3 16 p", "")?;
+    assert_eq!(rt; again.text(), ended.text());
+    assert_eq!(rt; again.desk.proof(), ended.desk.proof());
+    Ok(())
+}
+
+#[test]
+fn a_drawn_triangle_is_stopped(rt: HostRuntime) -> Result<(), Fail> {
+    let alloc = rt.alloc();
+    let drawn = make(alloc, 1, 3)?;
+    let around = drawn.length(&Tour::identity(alloc, 3)?);
+    let ended = solved(alloc, "tspc bench 1 3 0 p", "")?;
+    assert_eq!(rt; ended.status, Status::BenchStopped);
+    assert_eq!(rt;
+        ended.text(),
+        format!(in alloc; "STOPPED {around} 1\n")?.as_bytes()
+    );
+    let body = format!(in alloc; "TSPCERT 1\nN 3\nLENGTH {around}\nTOUR 1 2 3\nCUTS 0\nO\n")?;
+    assert_eq!(rt; ended.desk.proof(), body.as_bytes());
+    let failing = Faults {
+        most_write: 1,
+        bad_writes: &[5],
+        ..NONE
+    };
+    let torn = run_with(alloc, "tspc bench 1 3 0 p", "", &failing)?;
+    assert_eq!(rt; torn.status, Status::WriteFault);
+    assert_eq!(rt; torn.desk.proof(), b"TSPC".as_slice());
+    assert_eq!(rt; torn.text(), b"".as_slice());
+    Ok(())
+}
 
 #[test]
 fn the_tour_of_a_square_is_printed(rt: HostRuntime) -> Result<(), Fail> {
@@ -361,6 +417,8 @@ fn other_words_are_usage(rt: HostRuntime) -> Result<(), Fail> {
         "tspc tour a b",
         "tspc tour a --seed 18446744073709551616",
         "tspc tour a --budget 1",
+        "tspc bench 1 2 5 p",
+        "tspc bench 1 3 5",
         "tspc solve a b c --seed -1",
     ] {
         let ended = solved(alloc, line, SQUARE)?;
@@ -566,10 +624,12 @@ fn statuses_have_their_codes(rt: HostRuntime) -> Result<(), Fail> {
         (Status::Optimal, 0),
         (Status::Verified, 0),
         (Status::Toured, 0),
+        (Status::Benched, 0),
         (Status::Usage, 2),
         (Status::BadInstance, 3),
         (Status::Refused, 4),
         (Status::Stopped, 5),
+        (Status::BenchStopped, 5),
         (Status::ReadFault, 6),
         (Status::WriteFault, 7),
         (Status::StoreFault, 8),

@@ -29,6 +29,13 @@ fn push_cities(alloc: Global, text: &mut String, tour: &[u32]) -> Result<(), All
     Ok(())
 }
 
+/// The length of a shortest tour alone.
+pub(crate) fn length_text(alloc: Global, length: u64) -> Result<Vec<u8>, AllocError>
+    ensures { IfOk result (λ t. t.items ≡ texts.length_text length) }
+{
+    Ok(format!(in alloc; "OPTIMAL {length}\n")?.into_bytes())
+}
+
 /// The best length so far, and how many nodes are open.
 pub(crate) fn stopped_text(alloc: Global, best: u64, open_nodes: u32) -> Result<Vec<u8>, AllocError>
     ensures { IfOk result (λ t. t.items ≡ texts.stopped_text best open_nodes) }

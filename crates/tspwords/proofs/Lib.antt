@@ -3,3 +3,4 @@ pub mod Numbers
 pub mod Given
 pub mod Taken
 pub mod Options
+pub mod Positionals

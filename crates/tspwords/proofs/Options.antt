@@ -15,11 +15,11 @@ use Rattle.tspwords.proofs.PlainWords.{given, not_dashes, not_long, not_short, n
 use Rattle.tspwords.proofs.Taken.{solve_built}
 
 -- what may go wrong after the walk
-abbrev end_fault : Shape → Held → Kinds
+abbrev pub end_fault : Shape → Held → Kinds
 end_fault s h = or_else (settle_fault s.rules s.args_override_self h) (or_else (defaults_fault (settled s.rules h).rows s.rules) (check_fault s (finished s.rules h) false))
 
 -- a level whose walk has no fault, and whose end has none
-level_free : (s : Shape) (words : List Text) (w : Walk) → walk_fault s [] (walk_from nothing_held) words ≡ [] → walk s.rules [] nothing_held words ≡ w → end_fault s w.held ≡ []
+pub level_free : (s : Shape) (words : List Text) (w : Walk) → walk_fault s [] (walk_from nothing_held) words ≡ [] → walk s.rules [] nothing_held words ≡ w → end_fault s w.held ≡ []
     → level_fault s [] nothing_held words false [] ≡ []
 level_free s words w walks ends free =
     subst (λ k. or_else k (end_fault s (walk s.rules [] nothing_held words).held) ≡ []) (sym walks) (subst (λ x. end_fault s x.held ≡ []) (sym ends) free)
@@ -107,8 +107,8 @@ named_both name a b c d e = refl
 
 pub both_taken : BudgetsAndSeedsAreTaken
 both_taken name a b c d e pa pb pc fits_d fits_e =
-    let pd = number_is_plain most_budget d fits_d in
-    let pe = number_is_plain most_seed e fits_e in
+    let pd = number_is_plain 0 most_budget d fits_d in
+    let pe = number_is_plain 0 most_seed e fits_e in
     let rows = both_rows_are name a b c d e pa pb pc pd pe in record {
       call = record { taken = both_fault_free name a b c d e pa pb pc pd pe (in_unsigned 0 most_budget d fits_d) (in_unsigned 0 most_seed e fits_e); named = named_both name a b c d e };
       instance_is = rw rows refl;

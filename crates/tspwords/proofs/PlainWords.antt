@@ -76,9 +76,9 @@ paths_taken name a b c pa pb pc =
     }
 
 -- a number does not begin with a hyphen
-pub number_is_plain : (most : ℕ) (word : Text) → IsUnsignedIn 0 most word → IsPlain word
-number_is_plain most [] h e = absurd (omega arith)
-number_is_plain most (x ∷ xs) h e =
+pub number_is_plain : (least most : ℕ) (word : Text) → IsUnsignedIn least most word → IsPlain word
+number_is_plain least most [] h e = absurd (omega arith)
+number_is_plain least most (x ∷ xs) h e =
     let same : without_leading_plus (x ∷ xs) ≡ x ∷ xs = without_leading_plus_none (x ∷ xs) (λ p. absurd (omega arith)) in
     let numeral : IsNumeral 10 (x ∷ xs) = subst (IsNumeral 10) same h.0 in
     absurd (omega (arith, digit_from_value x numeral.1.0))
@@ -102,7 +102,7 @@ named_budget name a b c d = refl
 
 pub budgets_taken : BudgetsAreTaken
 budgets_taken name a b c d pa pb pc fits =
-    let pd = number_is_plain most_budget d fits in
+    let pd = number_is_plain 0 most_budget d fits in
     let is = in_unsigned 0 most_budget d fits in
     let rows = budget_rows_are name a b c d pa pb pc pd in record {
       call = record { taken = budget_fault_free name a b c d pa pb pc pd is; named = named_budget name a b c d };
@@ -133,7 +133,7 @@ named_seed name a b c d = refl
 
 pub seeds_taken : SeedsAreTaken
 seeds_taken name a b c d pa pb pc fits =
-    let pd = number_is_plain most_seed d fits in
+    let pd = number_is_plain 0 most_seed d fits in
     let is = in_unsigned 0 most_seed d fits in
     let rows = seed_rows_are name a b c d pa pb pc pd in record {
       call = record { taken = seed_fault_free name a b c d pa pb pc pd is; named = named_seed name a b c d };
@@ -182,7 +182,7 @@ named_tour_seed name a d = refl
 
 pub tour_seeds_taken : TourSeedsAreTaken
 tour_seeds_taken name a d pa fits =
-    let pd = number_is_plain most_seed d fits in
+    let pd = number_is_plain 0 most_seed d fits in
     let rows = tour_seed_rows_are name a d pa pd in record {
       call = record { taken = tour_seed_fault_free name a d pa pd (in_unsigned 0 most_seed d fits); named = named_tour_seed name a d };
       instance_is = rw rows refl;

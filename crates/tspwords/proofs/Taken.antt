@@ -21,10 +21,11 @@ use Rattle.clap.specs.declared.builder.value_parser.Reading.{Reading}
 use Rattle.clap.specs.declared.builder.value_parser.ValueParser.TheVariants as parser
 use Rattle.clap.specs.declared.parser.matches.ValueSource.{ValueSource}
 use Rattle.clap.specs.declared.parser.matches.ValueSource.TheVariants.{DefaultValue}
-use Rattle.tspwords.specs.Program.{program, verifier, IsTaken, IsVerifierCall, command_word, rows_of_words, word_in, word_for, seed_of, most_budget, most_seed, default_seed, solve_shape, verify_shape, tour_shape}
+use Rattle.tspwords.specs.Program.{program, verifier, IsTaken, IsVerifierCall, command_word, rows_of_words, word_in, word_for, budget_of, seed_of, most_budget, least_cities, most_cities, most_seed, default_seed, solve_shape, verify_shape, tour_shape, bench_shape}
 use Rattle.tspwords.specs.Laws.{TakenWordsAreGiven, VerifierWordsAreGiven}
-use Rattle.tspwords.specs.Found.{IsSolveOf, IsVerifyOf, IsTourOf, budget_in, seed_in}
-use Rattle.tspwords.specs.Says.{SaysSolve, SaysVerify, SaysTour, SaysPaths}
+use Rattle.tspwords.specs.Found.{IsSolveOf, IsVerifyOf, IsTourOf, IsBenchOf, budget_in, cities_in, seed_in}
+use Rattle.tspwords.specs.Says.{SaysSolve, SaysVerify, SaysTour, SaysBench, SaysPaths}
+use Rattle.tspwords.specs.declared.words.BenchWords.{BenchWords}
 use Rattle.tspwords.specs.declared.words.Solve.{Solve}
 use Rattle.tspwords.specs.declared.words.TourWords.{TourWords}
 use Rattle.tspwords.specs.declared.words.VerifyWords.{VerifyWords}
@@ -43,7 +44,11 @@ verify_built = built_leaf (inherited (built program).top verify_shape)
 abbrev pub tour_built : Shape
 tour_built = built_leaf (inherited (built program).top tour_shape)
 
-subs_are : (built program).subs ≡ solve_built ∷ verify_built ∷ tour_built ∷ []
+-- `bench` as the parser has it
+abbrev pub bench_built : Shape
+bench_built = built_leaf (inherited (built program).top bench_shape)
+
+subs_are : (built program).subs ≡ solve_built ∷ verify_built ∷ tour_built ∷ bench_built ∷ []
 subs_are = refl
 
 -- the verifier as the parser has it
@@ -58,6 +63,9 @@ verify_plain = (record { own = refl; kind = inl (record { set = refl; least = re
 
 tour_plain : ArePlain tour_built.rules
 tour_plain = (record { own = refl; kind = inl (record { set = refl; least = refl; most = refl }) }, (record { own = refl; kind = inl (record { set = refl; least = refl; most = refl }) }, (record { own = refl; kind = inr refl }, tt)))
+
+bench_plain : ArePlain bench_built.rules
+bench_plain = (record { own = refl; kind = inl (record { set = refl; least = refl; most = refl }) }, (record { own = refl; kind = inl (record { set = refl; least = refl; most = refl }) }, (record { own = refl; kind = inl (record { set = refl; least = refl; most = refl }) }, (record { own = refl; kind = inl (record { set = refl; least = refl; most = refl }) }, (record { own = refl; kind = inr refl }, tt)))))
 
 verifier_plain : ArePlain verifier_built.rules
 verifier_plain = (record { own = refl; kind = inl (record { set = refl; least = refl; most = refl }) }, (record { own = refl; kind = inl (record { set = refl; least = refl; most = refl }) }, (record { own = refl; kind = inr refl }, tt)))
@@ -201,6 +209,16 @@ path_whole s words id a own found given =
     let w = word_found s.rules id rows a r.0 own found.good r.1 in
     word_is id rows w.word w.first
 
+-- the number of an argument that takes one from `least` to `most` and has a row
+number_passed : (s : Shape) (words : List Text) (id : Text) (least most : ℕ) (a : Rule) (r : Row) → arg_by_id s.rules id ≡ Some a → parser_of_value a.parser ≡ parser.Unsigned least most → IsFound s words
+    → find (λ r. bytes_eq r.id id) (rows_after s.rules [] words) ≡ Some r → is_unsigned_in least most (word_in id (rows_after s.rules [] words)) ≡ true
+number_passed s words id least most a r own reads found there =
+    let rows = rows_after s.rules [] words in
+    let w = word_found s.rules id rows a r own found.good there in
+    let is : word_in id rows ≡ w.word = ap (λ o. unwrap_or o []) w.first in
+    let passes : is_unsigned_in least most w.word ≡ true = subst (λ p. accepts a.ignore_case p w.word ≡ true) reads w.passes in
+    subst (λ t. is_unsigned_in least most t ≡ true) (sym is) passes
+
 -- an argument that takes a number from `least` to `most`, and has a default
 record TakesNumber (s : Shape) (id : Text) (least most : ℕ) : Type 0 where
   rule : Rule
@@ -214,10 +232,14 @@ number_whole : (s : Shape) (words : List Text) (id : Text) (least most : ℕ) �
 number_whole s words id least most takes found =
     let rows = rows_after s.rules [] words in
     let r = found_row id rows (filled id (settled s.rules (walk s.rules [] nothing_held words).held).rows s.rules takes.rule takes.default [] takes.own takes.is takes.fills) in
-    let w = word_found s.rules id rows takes.rule r.0 takes.own found.good r.1 in
-    let is : word_in id rows ≡ w.word = ap (λ o. unwrap_or o []) w.first in
-    let passes : is_unsigned_in least most w.word ≡ true = subst (λ p. accepts takes.rule.ignore_case p w.word ≡ true) takes.reads w.passes in
-    subst (λ t. is_unsigned_in least most t ≡ true) (sym is) passes
+    number_passed s words id least most takes.rule r.0 takes.own takes.reads found r.1
+
+-- an argument that has to be there takes a number from `least` to `most`
+numeral_whole : (s : Shape) (words : List Text) (id : Text) (least most : ℕ) (a : Rule) → arg_by_id s.rules id ≡ Some a → parser_of_value a.parser ≡ parser.Unsigned least most → IsFound s words
+    → is_given id (rows_after s.rules [] words) ≡ true → is_unsigned_in least most (word_in id (rows_after s.rules [] words)) ≡ true
+numeral_whole s words id least most a own reads found given =
+    let r = given_row id (rows_after s.rules [] words) given in
+    number_passed s words id least most a r.0 own reads found r.1
 
 solve_budget : TakesNumber solve_built (codes "budget") 0 most_budget
 solve_budget = record { rule = slice_index_or solve_built.rules 3 help_rule; own = refl; is = refl; reads = refl; default = codes "65536"; fills = refl }
@@ -255,6 +277,32 @@ tour_whole words found =
     let given = one_given (is_given (codes "instance") (rows_after tour_built.rules [] words)) found.checked in record {
       instance = path_whole tour_built words (codes "instance") (slice_index_or tour_built.rules 0 help_rule) refl found given;
       seed = number_whole tour_built words (codes "seed") 0 most_seed tour_seed found;
+    }
+
+-- ---- the words of `bench`
+
+four_given : (x y z w : Bool) → check_kinds false false (not x || (not y || (not z || (not w || false)))) ≡ [] → (x ≡ true) × (y ≡ true) × (z ≡ true) × (w ≡ true)
+four_given true true true true e = (refl, refl, refl, refl)
+four_given true true true false e = cc
+four_given true true false w e = cc
+four_given true false z w e = cc
+four_given false y z w e = cc
+
+-- what is found for `bench`
+pub record IsWholeBench (rows : List Row) : Type 0 where
+  pub seed : is_unsigned_in 0 most_seed (word_in (codes "seed") rows) ≡ true
+  pub cities : is_unsigned_in least_cities most_cities (word_in (codes "cities") rows) ≡ true
+  pub budget : is_unsigned_in 0 most_budget (word_in (codes "budget") rows) ≡ true
+  pub out : first_of (codes "out") rows ≡ Some (word_in (codes "out") rows)
+
+bench_whole : (words : List Text) → IsFound bench_built words → IsWholeBench (rows_after bench_built.rules [] words)
+bench_whole words found =
+    let rows = rows_after bench_built.rules [] words in
+    let given = four_given (is_given (codes "seed") rows) (is_given (codes "cities") rows) (is_given (codes "budget") rows) (is_given (codes "out") rows) found.checked in record {
+      seed = numeral_whole bench_built words (codes "seed") 0 most_seed (slice_index_or bench_built.rules 0 help_rule) refl refl found given.0;
+      cities = numeral_whole bench_built words (codes "cities") least_cities most_cities (slice_index_or bench_built.rules 1 help_rule) refl refl found given.1;
+      budget = numeral_whole bench_built words (codes "budget") 0 most_budget (slice_index_or bench_built.rules 2 help_rule) refl refl found given.2;
+      out = path_whole bench_built words (codes "out") (slice_index_or bench_built.rules 3 help_rule) refl found given.3;
     }
 
 -- ---- the words of `verify` and of the verifier
@@ -315,8 +363,11 @@ IsVerifyFound o = IsWholeOf (codes "verify") HasPaths o
 abbrev IsTourFound : Option (Text × List Row) → Type 0
 IsTourFound o = IsWholeOf (codes "tour") IsWholeTour o
 
+abbrev IsBenchFound : Option (Text × List Row) → Type 0
+IsBenchFound o = IsWholeOf (codes "bench") IsWholeBench o
+
 abbrev IsWholeCall : Option (Text × List Row) → Type 0
-IsWholeCall o = IsSolveFound o ⊎ (IsVerifyFound o ⊎ IsTourFound o)
+IsWholeCall o = IsSolveFound o ⊎ (IsVerifyFound o ⊎ (IsTourFound o ⊎ IsBenchFound o))
 
 four_free : (w b s d c : Kinds) → or_else w (or_else b (or_else s (or_else d c))) ≡ [] → (b ≡ []) × (c ≡ [])
 four_free [] [] [] [] c e = (refl, e)
@@ -331,18 +382,19 @@ no_command rows e = cc
 entered_whole : (rows : List Row) (stop : Option (Text × List Text)) → entered_fault (built program) stop ≡ [] → check_fault (built program).top rows (is_some (entered (built program) stop)) ≡ []
     → IsWholeCall (entered (built program) stop)
 entered_whole rows None below checks = absurd (no_command rows checks)
-entered_whole rows (Some p) below checks = go (answers_to p.0 (label_of solve_built)) (answers_to p.0 (label_of verify_built)) (answers_to p.0 (label_of tour_built)) below checks
+entered_whole rows (Some p) below checks = go (answers_to p.0 (label_of solve_built)) (answers_to p.0 (label_of verify_built)) (answers_to p.0 (label_of tour_built)) (answers_to p.0 (label_of bench_built)) below checks
   where
-    found : (b v t : Bool) → Option Shape
-    found b v t = cond b (Some solve_built) (cond v (Some verify_built) (cond t (Some tour_built) None))
+    found : (s v t b : Bool) → Option Shape
+    found s v t b = cond s (Some solve_built) (cond v (Some verify_built) (cond t (Some tour_built) (cond b (Some bench_built) None)))
 
-    go : (b v t : Bool) → option_map_or (λ s. level_fault s [] nothing_held p.1 false []) (found b v t) [] ≡ []
-        → check_fault (built program).top rows (is_some (option_map (λ s. rows_at s p.1) (found b v t))) ≡ []
-        → IsWholeCall (option_map (λ s. rows_at s p.1) (found b v t))
-    go true v t below checks = inl (record { named = refl; whole = solve_whole p.1 (level_found solve_built p.1 solve_plain below) })
-    go false true t below checks = inr (inl (record { named = refl; whole = verify_whole p.1 (level_found verify_built p.1 verify_plain below) }))
-    go false false true below checks = inr (inr (record { named = refl; whole = tour_whole p.1 (level_found tour_built p.1 tour_plain below) }))
-    go false false false below checks = absurd (no_command rows checks)
+    go : (s v t b : Bool) → option_map_or (λ s. level_fault s [] nothing_held p.1 false []) (found s v t b) [] ≡ []
+        → check_fault (built program).top rows (is_some (option_map (λ s. rows_at s p.1) (found s v t b))) ≡ []
+        → IsWholeCall (option_map (λ s. rows_at s p.1) (found s v t b))
+    go true v t b below checks = inl (record { named = refl; whole = solve_whole p.1 (level_found solve_built p.1 solve_plain below) })
+    go false true t b below checks = inr (inl (record { named = refl; whole = verify_whole p.1 (level_found verify_built p.1 verify_plain below) }))
+    go false false true b below checks = inr (inr (inl (record { named = refl; whole = tour_whole p.1 (level_found tour_built p.1 tour_plain below) })))
+    go false false false true below checks = inr (inr (inr (record { named = refl; whole = bench_whole p.1 (level_found bench_built p.1 bench_plain below) })))
+    go false false false false below checks = absurd (no_command rows checks)
 
 taken_whole : (words : List Text) → IsTaken words → IsWholeCall (subcommand_of program words)
 taken_whole words taken =
@@ -366,11 +418,18 @@ taken_given words taken = elim (taken_whole words taken) [
     instance = verify.whole.instance;
     proof = verify.whole.proof;
   }))
-  | inr (inr tour) ↦ inr (inr (record {
+  | inr (inr (inl tour)) ↦ inr (inr (inl (record {
     named = record { taken = taken; named = tour.named };
     instance = tour.whole.instance;
     seed = unsigned_in 0 most_seed (word_for (codes "seed") words) tour.whole.seed;
-  }))
+  })))
+  | inr (inr (inr bench)) ↦ inr (inr (inr (record {
+    named = record { taken = taken; named = bench.named };
+    seed = unsigned_in 0 most_seed (word_for (codes "seed") words) bench.whole.seed;
+    cities = unsigned_in least_cities most_cities (word_for (codes "cities") words) bench.whole.cities;
+    budget = unsigned_in 0 most_budget (word_for (codes "budget") words) bench.whole.budget;
+    out = bench.whole.out;
+  })))
 ]
 
 -- no command has another one's name
@@ -382,21 +441,33 @@ whole_solve : (words : List Text) → IsTaken words → command_word words ≡ c
 whole_solve words taken is = elim (taken_whole words taken) [
   | inl solve ↦ solve.whole
   | inr (inl verify) ↦ absurd (apart (command_word words) (codes "solve") (codes "verify") is verify.named refl)
-  | inr (inr tour) ↦ absurd (apart (command_word words) (codes "solve") (codes "tour") is tour.named refl)
+  | inr (inr (inl tour)) ↦ absurd (apart (command_word words) (codes "solve") (codes "tour") is tour.named refl)
+  | inr (inr (inr bench)) ↦ absurd (apart (command_word words) (codes "solve") (codes "bench") is bench.named refl)
 ]
 
 whole_tour : (words : List Text) → IsTaken words → command_word words ≡ codes "tour" → IsWholeTour (rows_of_words words)
 whole_tour words taken is = elim (taken_whole words taken) [
   | inl solve ↦ absurd (apart (command_word words) (codes "tour") (codes "solve") is solve.named refl)
   | inr (inl verify) ↦ absurd (apart (command_word words) (codes "tour") (codes "verify") is verify.named refl)
-  | inr (inr tour) ↦ tour.whole
+  | inr (inr (inl tour)) ↦ tour.whole
+  | inr (inr (inr bench)) ↦ absurd (apart (command_word words) (codes "tour") (codes "bench") is bench.named refl)
 ]
 
-pub verify_named : (words : List Text) → IsTaken words → (command_word words ≡ codes "solve" → ⊥) → (command_word words ≡ codes "tour" → ⊥) → command_word words ≡ codes "verify"
-verify_named words taken no_solve no_tour = elim (taken_whole words taken) [
+whole_bench : (words : List Text) → IsTaken words → command_word words ≡ codes "bench" → IsWholeBench (rows_of_words words)
+whole_bench words taken is = elim (taken_whole words taken) [
+  | inl solve ↦ absurd (apart (command_word words) (codes "bench") (codes "solve") is solve.named refl)
+  | inr (inl verify) ↦ absurd (apart (command_word words) (codes "bench") (codes "verify") is verify.named refl)
+  | inr (inr (inl tour)) ↦ absurd (apart (command_word words) (codes "bench") (codes "tour") is tour.named refl)
+  | inr (inr (inr bench)) ↦ bench.whole
+]
+
+pub verify_named : (words : List Text) → IsTaken words → (command_word words ≡ codes "solve" → ⊥) → (command_word words ≡ codes "tour" → ⊥) → (command_word words ≡ codes "bench" → ⊥)
+    → command_word words ≡ codes "verify"
+verify_named words taken no_solve no_tour no_bench = elim (taken_whole words taken) [
   | inl solve ↦ absurd (no_solve solve.named)
   | inr (inl verify) ↦ verify.named
-  | inr (inr tour) ↦ absurd (no_tour tour.named)
+  | inr (inr (inl tour)) ↦ absurd (no_tour tour.named)
+  | inr (inr (inr bench)) ↦ absurd (no_bench bench.named)
 ]
 
 -- the number of a word that a range took, found in the rows
@@ -404,6 +475,11 @@ seed_says : (words : List Text) (rows : List Row) (seed : ℕ) → is_unsigned_i
     → seed ≡ seed_in (word_in (codes "seed") rows) → seed ≡ seed_of words
 seed_says words rows seed passes same found =
     found ∙ ap (λ r. seed_in (word_in (codes "seed") r)) same ∙ number_taken 0 most_seed default_seed (word_for (codes "seed") words) passes
+
+budget_says : (words : List Text) (rows : List Row) (budget : ℕ) → is_unsigned_in 0 most_budget (word_for (codes "budget") words) ≡ true → rows ≡ rows_of_words words
+    → budget ≡ budget_in (word_in (codes "budget") rows) → budget ≡ budget_of words
+budget_says words rows budget passes same found =
+    found ∙ ap (λ r. budget_in (word_in (codes "budget") r)) same ∙ number_taken 0 most_budget most_budget (word_for (codes "budget") words) passes
 
 -- a call that was found, where the words are taken
 pub says_solve : (words : List Text) (rows : List Row) (s : Solve) → IsTaken words → command_word words ≡ codes "solve" → rows ≡ rows_of_words words → IsSolveOf rows s → SaysSolve words s
@@ -413,15 +489,15 @@ says_solve words rows s taken is same found =
       instance = found.instance ∙ ap (word_in (codes "instance")) same;
       proof = found.proof ∙ ap (word_in (codes "proof")) same;
       restart = found.restart ∙ ap (word_in (codes "restart")) same;
-      budget = found.budget ∙ ap (λ r. budget_in (word_in (codes "budget") r)) same ∙ number_taken 0 most_budget most_budget (word_for (codes "budget") words) whole.budget;
+      budget = budget_says words rows s.budget whole.budget same found.budget;
       few = found.few;
       seed = seed_says words rows s.seed whole.seed same found.seed;
     }
 
-pub says_verify : (words : List Text) (rows : List Row) (v : VerifyWords) → IsTaken words → (command_word words ≡ codes "solve" → ⊥) → (command_word words ≡ codes "tour" → ⊥) → rows ≡ rows_of_words words
+pub says_verify : (words : List Text) (rows : List Row) (v : VerifyWords) → IsTaken words → (command_word words ≡ codes "solve" → ⊥) → (command_word words ≡ codes "tour" → ⊥) → (command_word words ≡ codes "bench" → ⊥) → rows ≡ rows_of_words words
     → IsVerifyOf rows v → SaysVerify words v
-says_verify words rows v taken no_solve no_tour same found = record {
-  named = verify_named words taken no_solve no_tour;
+says_verify words rows v taken no_solve no_tour no_bench same found = record {
+  named = verify_named words taken no_solve no_tour no_bench;
   instance = found.instance ∙ ap (word_in (codes "instance")) same;
   proof = found.proof ∙ ap (word_in (codes "proof")) same;
 }
@@ -432,6 +508,19 @@ says_tour words rows t taken is same found = record {
   instance = found.instance ∙ ap (word_in (codes "instance")) same;
   seed = seed_says words rows t.seed (whole_tour words taken is).seed same found.seed;
 }
+
+pub says_bench : (words : List Text) (rows : List Row) (b : BenchWords) → IsTaken words → command_word words ≡ codes "bench" → rows ≡ rows_of_words words → IsBenchOf rows b → SaysBench words b
+says_bench words rows b taken is same found =
+    let whole = whole_bench words taken is in record {
+      named = is;
+      seed = seed_says words rows b.seed whole.seed same found.seed;
+      cities = found.cities ∙ ap (λ r. cities_in (word_in (codes "cities") r)) same ∙ number_taken least_cities most_cities least_cities (word_for (codes "cities") words) whole.cities;
+      enough = found.enough;
+      fits = found.fits;
+      budget = budget_says words rows b.budget whole.budget same found.budget;
+      few = found.few;
+      out = found.out ∙ ap (word_in (codes "out")) same;
+    }
 
 pub says_paths : (words : List Text) (rows : List Row) (v : VerifyWords) → rows ≡ matches_of verifier words → IsVerifyOf rows v → SaysPaths words v
 says_paths words rows v same found = record {
@@ -459,7 +548,8 @@ command_there (Some p) whole = refl
 command_there None whole = elim whole [
   | inl solve ↦ let e = solve.named in cc
   | inr (inl verify) ↦ let e = verify.named in cc
-  | inr (inr tour) ↦ let e = tour.named in cc
+  | inr (inr (inl tour)) ↦ let e = tour.named in cc
+  | inr (inr (inr bench)) ↦ let e = bench.named in cc
 ]
 
 rows_there : {A : Type 0} (f : A → Text × List Row) (o : Option A) → is_some (option_map f o) ≡ is_some o

@@ -2,10 +2,11 @@
 use Rattle.std.specs.Prelude.{◌≡◌, ◌≤◌, ℕ, List, codes, string_bytes, if◌then◌else◌}
 use Rattle.clap.specs.Walk.{Row, Text}
 use Rattle.clap.specs.ValueTests.{is_unsigned_in}
+use Rattle.tspwords.specs.declared.words.BenchWords.{BenchWords}
 use Rattle.tspwords.specs.declared.words.Solve.{Solve}
 use Rattle.tspwords.specs.declared.words.TourWords.{TourWords}
 use Rattle.tspwords.specs.declared.words.VerifyWords.{VerifyWords}
-use Rattle.tspwords.specs.Program.{most_budget, most_seed, default_seed, number_of, word_in}
+use Rattle.tspwords.specs.Program.{most_budget, least_cities, most_cities, most_seed, default_seed, number_of, word_in}
 
 -- the number that a word says, where it is one from `least` to `most`
 abbrev pub number_in : ℕ → ℕ → ℕ → Text → ℕ
@@ -14,6 +15,10 @@ number_in least most default word = if is_unsigned_in least most word then numbe
 -- the budget that a word says, where it is a number that a budget may be
 abbrev pub budget_in : Text → ℕ
 budget_in word = number_in 0 most_budget most_budget word
+
+-- the number of cities that a word says, where it is one that an instance of `bench` may have
+abbrev pub cities_in : Text → ℕ
+cities_in word = number_in least_cities most_cities least_cities word
 
 -- the seed that a word says, where it is a number that a seed may be
 abbrev pub seed_in : Text → ℕ
@@ -32,6 +37,16 @@ pub record IsSolveOf (rows : List Row) (s : Solve) : Type 0 where
 pub record IsTourOf (rows : List Row) (t : TourWords) : Type 0 where
   pub instance : string_bytes t.instance ≡ word_in (codes "instance") rows
   pub seed : t.seed ≡ seed_in (word_in (codes "seed") rows)
+
+-- this call of `bench` is what was found for its arguments
+pub record IsBenchOf (rows : List Row) (b : BenchWords) : Type 0 where
+  pub seed : b.seed ≡ seed_in (word_in (codes "seed") rows)
+  pub cities : b.cities ≡ cities_in (word_in (codes "cities") rows)
+  pub enough : least_cities ≤ b.cities
+  pub fits : b.cities ≤ most_cities
+  pub budget : b.budget ≡ budget_in (word_in (codes "budget") rows)
+  pub few : b.budget ≤ most_budget
+  pub out : string_bytes b.out ≡ word_in (codes "out") rows
 
 -- these paths are what was found for the arguments of `verify`, or of the verifier
 pub record IsVerifyOf (rows : List Row) (v : VerifyWords) : Type 0 where

@@ -3,7 +3,7 @@ use Rattle.std.specs.Prelude.{◌≡◌, ◌≢◌, ℕ, ◌⊎◌, List, [], �
 use Rattle.clap.specs.Values.{IsUnsignedIn}
 use Rattle.clap.specs.Walk.{Text, first_of}
 use Rattle.clap.specs.Simple.{matches_of}
-use Rattle.tspwords.specs.Program.{IsTaken, IsSolveCall, IsVerifyCall, IsTourCall, IsVerifierCall, most_budget, most_seed, default_seed, instance_word, proof_word, restart_word, budget_of, seed_of, number_of, rows_of_words, verifier, verifier_word, word_for}
+use Rattle.tspwords.specs.Program.{IsTaken, IsSolveCall, IsVerifyCall, IsTourCall, IsBenchCall, IsVerifierCall, most_budget, least_cities, most_cities, most_seed, default_seed, instance_word, proof_word, restart_word, out_word, budget_of, cities_of, seed_of, number_of, rows_of_words, verifier, verifier_word, word_for}
 
 -- a word that does not begin with a hyphen
 abbrev pub IsPlain : Text → Type 0
@@ -63,6 +63,19 @@ abbrev pub TourSeedsAreTaken : Type 0
 TourSeedsAreTaken = (name a d : Text) → IsPlain a → IsUnsignedIn 0 most_seed d
     → AreTourTaken (name ∷ codes "tour" ∷ a ∷ codes "--seed" ∷ d ∷ []) a (number_of d)
 
+-- the words are a call of `bench`, with this seed, this number of cities, this budget and this path
+pub record AreBenchTaken (words : List Text) (seed cities budget : ℕ) (out : Text) : Type 0 where
+  pub call : IsBenchCall words
+  pub seed_is : seed_of words ≡ seed
+  pub cities_is : cities_of words ≡ cities
+  pub budget_is : budget_of words ≡ budget
+  pub out_is : out_word words ≡ out
+
+-- `bench` with three numbers within their ranges and a path
+abbrev pub BenchIsTaken : Type 0
+BenchIsTaken = (name a b c d : Text) → IsUnsignedIn 0 most_seed a → IsUnsignedIn least_cities most_cities b → IsUnsignedIn 0 most_budget c → IsPlain d
+    → AreBenchTaken (name ∷ codes "bench" ∷ a ∷ b ∷ c ∷ d ∷ []) (number_of a) (number_of b) (number_of c) d
+
 -- the words are of the verifier's form, with these paths
 pub record AreVerifierTaken (words : List Text) (instance proof : Text) : Type 0 where
   pub call : IsVerifierCall words
@@ -94,9 +107,17 @@ pub record AreTourGiven (words : List Text) : Type 0 where
   pub instance : first_of (codes "instance") (rows_of_words words) ≡ Some (instance_word words)
   pub seed : IsUnsignedIn 0 most_seed (word_for (codes "seed") words)
 
+-- a call of `bench` gives a seed, a number of cities and a budget within their ranges, and a path
+pub record AreBenchGiven (words : List Text) : Type 0 where
+  pub named : IsBenchCall words
+  pub seed : IsUnsignedIn 0 most_seed (word_for (codes "seed") words)
+  pub cities : IsUnsignedIn least_cities most_cities (word_for (codes "cities") words)
+  pub budget : IsUnsignedIn 0 most_budget (word_for (codes "budget") words)
+  pub out : first_of (codes "out") (rows_of_words words) ≡ Some (out_word words)
+
 -- words that are taken are a call of a command
 abbrev pub TakenWordsAreGiven : Type 0
-TakenWordsAreGiven = (words : List Text) → IsTaken words → AreGiven words ⊎ (AreVerifyGiven words ⊎ AreTourGiven words)
+TakenWordsAreGiven = (words : List Text) → IsTaken words → AreGiven words ⊎ (AreVerifyGiven words ⊎ (AreTourGiven words ⊎ AreBenchGiven words))
 
 -- words of the verifier's form give both paths
 pub record AreVerifierGiven (words : List Text) : Type 0 where

@@ -20,6 +20,13 @@ most_budget = 65536
 abbrev pub most_seed : ℕ
 most_seed = 18446744073709551615
 
+-- the fewest and the most cities of an instance that `bench` makes
+abbrev pub least_cities : ℕ
+least_cities = 3
+
+abbrev pub most_cities : ℕ
+most_cities = 2000
+
 -- the seed that holds where none is given
 abbrev pub default_seed : ℕ
 default_seed = 1
@@ -31,6 +38,10 @@ number_rule id least most default = record (new_rule id) {
   parser = Some (parser.Unsigned least most);
   defaults = default ∷ [];
 }
+
+-- a number from `least` to `most` that has to be there
+abbrev pub numeral_rule : Text → ℕ → ℕ → Rule
+numeral_rule id least most = record (path_rule id) { parser = Some (parser.Unsigned least most) }
 
 -- `--budget N`, N from 0 to 65536
 abbrev pub budget_rule : Rule
@@ -56,6 +67,12 @@ verify_shape = record (new_shape (codes "verify")) {
 abbrev pub tour_shape : Shape
 tour_shape = record (new_shape (codes "tour")) { rules = path_rule (codes "instance") ∷ seed_rule ∷ [] }
 
+-- `bench SEED N BUDGET OUT`, SEED from 0 to 2 ^ 64 - 1, N from 3 to 2000 and BUDGET from 0 to 65536
+abbrev pub bench_shape : Shape
+bench_shape = record (new_shape (codes "bench")) {
+  rules = numeral_rule (codes "seed") 0 most_seed ∷ numeral_rule (codes "cities") least_cities most_cities ∷ numeral_rule (codes "budget") 0 most_budget ∷ path_rule (codes "out") ∷ [];
+}
+
 -- the program with the commands that have to do with proofs
 abbrev pub proving : App
 proving = with_subcommand (with_subcommand (record {
@@ -65,7 +82,7 @@ proving = with_subcommand (with_subcommand (record {
 
 -- the program: one of its commands has to be named
 abbrev pub program : App
-program = with_subcommand proving tour_shape
+program = with_subcommand (with_subcommand proving tour_shape) bench_shape
 
 -- the words are of a command's form: the parser finds no fault with them, of which a call for help is one
 abbrev pub IsTaken : List Text → Type 0
@@ -89,6 +106,9 @@ IsVerifyCall words = IsCallOf (codes "verify") words
 abbrev pub IsTourCall : List Text → Type 0
 IsTourCall words = IsCallOf (codes "tour") words
 
+abbrev pub IsBenchCall : List Text → Type 0
+IsBenchCall words = IsCallOf (codes "bench") words
+
 -- what the words say of the arguments of the command that they name
 abbrev pub rows_of_words : List Text → List Row
 rows_of_words words = option_map_or (λ p. p.1) (subcommand_of program words) []
@@ -109,12 +129,18 @@ proof_word words = word_for (codes "proof") words
 abbrev pub restart_word : List Text → Text
 restart_word words = word_for (codes "restart") words
 
+abbrev pub out_word : List Text → Text
+out_word words = word_for (codes "out") words
+
 -- the number that a word of digits says, with or without a `+`
 abbrev pub number_of : Text → ℕ
 number_of word = digits_value 10 (without_leading_plus word)
 
 abbrev pub budget_of : List Text → ℕ
 budget_of words = number_of (word_for (codes "budget") words)
+
+abbrev pub cities_of : List Text → ℕ
+cities_of words = number_of (word_for (codes "cities") words)
 
 abbrev pub seed_of : List Text → ℕ
 seed_of words = number_of (word_for (codes "seed") words)

@@ -1,12 +1,13 @@
 -- Which command the words say. The verifier's words say paths alone.
 use Rattle.std.specs.Prelude.{◌≡◌, ◌≤◌, List, codes, string_bytes}
 use Rattle.clap.specs.Walk.{Text}
+use Rattle.tspwords.specs.declared.words.BenchWords.{BenchWords}
 use Rattle.tspwords.specs.declared.words.Solve.{Solve}
 use Rattle.tspwords.specs.declared.words.TourWords.{TourWords}
 use Rattle.tspwords.specs.declared.words.VerifyWords.{VerifyWords}
 use Rattle.tspwords.specs.declared.words.Command.{Command}
 use Rattle.tspwords.specs.declared.words.Command.TheVariants as command
-use Rattle.tspwords.specs.Program.{most_budget, command_word, instance_word, proof_word, restart_word, budget_of, seed_of, verifier_word}
+use Rattle.tspwords.specs.Program.{most_budget, least_cities, most_cities, command_word, instance_word, proof_word, restart_word, out_word, budget_of, cities_of, seed_of, verifier_word}
 
 -- the words say this call of `solve`
 pub record SaysSolve (words : List Text) (s : Solve) : Type 0 where
@@ -30,6 +31,17 @@ pub record SaysTour (words : List Text) (t : TourWords) : Type 0 where
   pub instance : string_bytes t.instance ≡ instance_word words
   pub seed : t.seed ≡ seed_of words
 
+-- the words say this call of `bench`
+pub record SaysBench (words : List Text) (b : BenchWords) : Type 0 where
+  pub named : command_word words ≡ codes "bench"
+  pub seed : b.seed ≡ seed_of words
+  pub cities : b.cities ≡ cities_of words
+  pub enough : least_cities ≤ b.cities
+  pub fits : b.cities ≤ most_cities
+  pub budget : b.budget ≡ budget_of words
+  pub few : b.budget ≤ most_budget
+  pub out : string_bytes b.out ≡ out_word words
+
 -- the words of the verifier say these paths
 pub record SaysPaths (words : List Text) (v : VerifyWords) : Type 0 where
   pub instance : string_bytes v.instance ≡ verifier_word (codes "instance") words
@@ -40,3 +52,4 @@ abbrev pub Says : List Text → Command → Type 0
 Says words (command.Solve s) = SaysSolve words s
 Says words (command.Verify v) = SaysVerify words v
 Says words (command.Tour t) = SaysTour words t
+Says words (command.Bench b) = SaysBench words b

@@ -1,9 +1,10 @@
 //! What the words of a command say.
-ghost use Rattle.tspwords.specs.Laws.{PathsAreTaken, BudgetsAreTaken, SeedsAreTaken, BudgetsAndSeedsAreTaken, VerifyIsTaken, TourIsTaken, TourSeedsAreTaken, VerifierIsTaken, TakenWordsAreGiven, VerifierWordsAreGiven};
+ghost use Rattle.tspwords.specs.Laws.{PathsAreTaken, BudgetsAreTaken, SeedsAreTaken, BudgetsAndSeedsAreTaken, VerifyIsTaken, TourIsTaken, TourSeedsAreTaken, BenchIsTaken, VerifierIsTaken, TakenWordsAreGiven, VerifierWordsAreGiven};
 
 /// The words of `solve` with three paths that do not begin with a hyphen are taken, with and without a budget and a seed,
 /// and say these paths and these numbers, or 65,536 and 1; so are the words of `verify` and of the verifier with two such
-/// paths, and those of `tour` with one, with and without a seed.
+/// paths, those of `tour` with one, with and without a seed, and those of `bench` with three numbers within their ranges and
+/// one such path.
 pub fn plain_words_are_taken()
     ensures paths { PathsAreTaken }
     ensures budgets { BudgetsAreTaken }
@@ -12,11 +13,12 @@ pub fn plain_words_are_taken()
     ensures verify { VerifyIsTaken }
     ensures tour { TourIsTaken }
     ensures tour_seeds { TourSeedsAreTaken }
+    ensures bench { BenchIsTaken }
     ensures verifier { VerifierIsTaken }
 {}
 
-/// Words that are taken give each path of their command, for `solve` a budget from 0 to 65,536, and for `solve` and `tour`
-/// a seed from 0 to 2^64 - 1.
+/// Words that are taken give each path of their command, for `solve` and `bench` a budget from 0 to 65,536, for `solve`,
+/// `tour` and `bench` a seed from 0 to 2^64 - 1, and for `bench` from 3 to 2,000 cities.
 pub fn taken_words_are_given()
     ensures commands { TakenWordsAreGiven }
     ensures verifier { VerifierWordsAreGiven }

@@ -4,7 +4,7 @@ ghost use Rattle.std.specs.Prelude.{◌≡◌, codes, false, [], IfOk};
 ghost use Rattle.clap.specs.Walk.{rule_of};
 ghost use Rattle.clap.specs.Simple.{app_of, new_app, with_rule, on_top};
 ghost use Rattle.clap.specs.declared.builder.command.Command.TheViews.{out-Command};
-ghost use Rattle.tspwords.specs.Program.{path_rule, number_rule, budget_rule, seed_rule, solve_shape, verify_shape, tour_shape, proving, program, verifier};
+ghost use Rattle.tspwords.specs.Program.{path_rule, number_rule, numeral_rule, budget_rule, seed_rule, least_cities, most_cities, most_seed, solve_shape, verify_shape, tour_shape, bench_shape, proving, program, verifier};
 
 use clap::builder::ValueParser;
 use clap::{Arg, Command};
@@ -27,6 +27,14 @@ fn number<'a>(alloc: Global, id: &'a str, least: u64, most: u64, default: &'a st
         .long(id)
         .value_parser(ValueParser::Unsigned(least, most))
         .default_value(default)
+}
+
+// A number from `least` to `most` that has to be there.
+fn numeral<'a>(alloc: Global, id: &'a str, least: u64, most: u64) -> Arg<'a>
+    ensures rule { rule_of result ≡ numeral_rule id.now least most }
+    ensures local { result.global ≡ false }
+{
+    path(alloc, id).value_parser(ValueParser::Unsigned(least, most))
 }
 
 // `--budget N`
@@ -81,6 +89,26 @@ fn tour<'a>(alloc: Global) -> Result<Command<'a>, AllocError>
         .arg(seed(alloc))
 }
 
+// `bench SEED N`, the front of `bench`.
+fn bench_front<'a>(alloc: Global) -> Result<Command<'a>, AllocError>
+    ensures app { IfOk result (λ c. app_of c ≡ with_rule (with_rule (new_app (codes "bench")) (numeral_rule (codes "seed") 0 most_seed)) (numeral_rule (codes "cities") least_cities most_cities)) }
+    ensures local { IfOk result (λ c. (out-Command c).has_globals ≡ false) }
+{
+    Command::new(alloc, "bench")
+        .arg(numeral(alloc, "seed", 0, u64::MAX))?
+        .arg(numeral(alloc, "cities", 3, 2000))
+}
+
+// `bench SEED N BUDGET OUT`
+fn bench<'a>(alloc: Global) -> Result<Command<'a>, AllocError>
+    ensures app { IfOk result (λ c. app_of c ≡ record { top = bench_shape; subs = [] }) }
+    ensures local { IfOk result (λ c. (out-Command c).has_globals ≡ false) }
+{
+    bench_front(alloc)?
+        .arg(numeral(alloc, "budget", 0, 65536))?
+        .arg(path(alloc, "out"))
+}
+
 // `verify INSTANCE PROOF`
 fn verify<'a>(alloc: Global) -> Result<Command<'a>, AllocError>
     ensures app { IfOk result (λ c. app_of c ≡ record { top = verify_shape; subs = [] }) }
@@ -107,7 +135,9 @@ pub(crate) fn program<'a>(alloc: Global) -> Result<Command<'a>, AllocError>
     ensures app { IfOk result (λ c. app_of c ≡ program) }
     ensures local { IfOk result (λ c. (out-Command c).has_globals ≡ false) }
 {
-    proving(alloc)?.subcommand(tour(alloc)?)
+    proving(alloc)?
+        .subcommand(tour(alloc)?)?
+        .subcommand(bench(alloc)?)
 }
 
 /// The verifier.

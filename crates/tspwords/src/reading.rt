@@ -6,17 +6,23 @@ ghost use Rattle.clap.specs.Simple.{app_of, matches_of, subcommand_of, subcomman
 ghost use Rattle.clap.specs.Faults.{fault_of, is_simple_and_free};
 ghost use Rattle.clap.specs.declared.builder.command.Command.TheViews.{out-Command};
 ghost use Rattle.tspwords.specs.Program.{program, verifier, IsTaken, IsVerifierCall, word_in};
-ghost use Rattle.tspwords.specs.Found.{IsSolveOf, IsVerifyOf, IsTourOf, number_in, budget_in, seed_in};
+ghost use Rattle.tspwords.specs.Found.{IsSolveOf, IsVerifyOf, IsTourOf, IsBenchOf, number_in, budget_in, cities_in, seed_in};
 ghost use Rattle.tspwords.specs.Says.{Says, SaysPaths};
 
 use crate::program::{program, verifier};
-use crate::words::{Command, Solve, TourWords, VerifyWords, WordsError};
+use crate::words::{BenchWords, Command, Solve, TourWords, VerifyWords, WordsError};
 use clap::ArgMatches;
 use clap::error::ErrorKind;
 use std::alloc::{AllocError, Global};
 
 /// The greatest budget, and the one where none is given.
 const MOST_BUDGET: u64 = 65536;
+
+/// The fewest cities of an instance that `bench` makes.
+const LEAST_CITIES: u64 = 3;
+
+/// The most cities of an instance that `bench` makes.
+const MOST_CITIES: u64 = 2000;
 
 /// The seed where none is given.
 const DEFAULT_SEED: u64 = 1;
@@ -33,6 +39,7 @@ pub fn read_command(alloc: Global, words: &[String]) -> Result<Command, WordsErr
     match matches.subcommand() {
         Some(("solve", found)) => Ok(Command::Solve(solve(alloc, found)?)),
         Some(("tour", found)) => Ok(Command::Tour(tour(alloc, found)?)),
+        Some(("bench", found)) => Ok(Command::Bench(bench(alloc, found)?)),
         Some((_, found)) => Ok(Command::Verify(verify(alloc, found)?)),
         None => Err(WordsError::Usage),
     }
@@ -108,6 +115,22 @@ fn tour(alloc: Global, found: &ArgMatches) -> Result<TourWords, AllocError>
     })
 }
 
+// The call of `bench` that was found.
+fn bench(alloc: Global, found: &ArgMatches) -> Result<BenchWords, AllocError>
+    ensures { IfOk result (IsBenchOf (rows_of (found_of found.now))) }
+{
+    let out = path(alloc, found, "out")?;
+    let seed = seed(found);
+    let cities = cities(found);
+    let budget = budget(found);
+    Ok(BenchWords {
+        seed,
+        cities,
+        budget,
+        out,
+    })
+}
+
 // The paths that were found.
 fn verify(alloc: Global, found: &ArgMatches) -> Result<VerifyWords, AllocError>
     ensures { IfOk result (IsVerifyOf (rows_of (found_of found.now))) }
@@ -139,6 +162,21 @@ fn budget(found: &ArgMatches) -> u32
 {
     let budget = number_in(word(found, "budget"), 0, MOST_BUDGET, MOST_BUDGET);
     budget as u32
+}
+
+// The number of cities that was found.
+fn cities(found: &ArgMatches) -> u32
+    ensures value { result ≡ cities_in (word_in (codes "cities") (rows_of (found_of found.now))) }
+    ensures least { 3 ≤ result }
+    ensures most { result ≤ 2000 }
+{
+    let cities = number_in(
+        word(found, "cities"),
+        LEAST_CITIES,
+        MOST_CITIES,
+        LEAST_CITIES,
+    );
+    cities as u32
 }
 
 // The seed that was found.

@@ -70,6 +70,32 @@ fn words_of_tour_that_are_taken(rt: HostRuntime) -> Result<(), Fail> {
     Ok(())
 }
 
+#[test]
+fn words_of_bench_that_are_taken(rt: HostRuntime) -> Result<(), Fail> {
+    for (line, seed, cities, budget, out) in [
+        ("tspc bench 0 3 0 p", 0, 3, 0, "p"),
+        (
+            "tspc bench 18446744073709551615 2000 65536 bench",
+            18446744073709551615,
+            2000,
+            65536,
+            "bench",
+        ),
+        ("tspc bench 1 200 5 -- -p", 1, 200, 5, "-p"),
+    ] {
+        match read(rt.alloc(), line)? {
+            Command::Bench(bench) => {
+                assert_eq!(rt; bench.seed, seed, "{line}");
+                assert_eq!(rt; bench.cities, cities, "{line}");
+                assert_eq!(rt; bench.budget, budget, "{line}");
+                assert_eq!(rt; bench.out.as_str(), out, "{line}");
+            }
+            _ => panic!(rt; "{line}"),
+        }
+    }
+    Ok(())
+}
+
 // Words that `verify` takes, with and without the name of the command.
 #[test]
 fn words_of_verify_that_are_taken(rt: HostRuntime) -> Result<(), Fail> {
@@ -136,6 +162,7 @@ fn words_that_are_not_taken(rt: HostRuntime) -> Result<(), Fail> {
         "tspc solve a b c --budge 1",
         "tspc solve a b c -n",
         "tspc bench 1 2 5 p",
+        "tspc bench 1 3 5",
         "tspc --help",
         "tspc help",
         "tspc solve --help",

@@ -30,6 +30,16 @@ pub struct TourWords {
     pub seed: u64,
 }
 
+/// A call of `bench`: the seed of the instance that is made, from 0 to 2^64 - 1; the number of its cities, from 3 to 2,000;
+/// the greatest number of nodes to settle, from 0 to 65,536; and the path of what is written.
+#[derive(Debug, Drop)]
+pub struct BenchWords {
+    pub seed: u64,
+    pub cities: u32,
+    pub budget: u32,
+    pub out: String,
+}
+
 /// A command of the solver.
 #[derive(Debug, Drop)]
 pub enum Command {
@@ -39,6 +49,8 @@ pub enum Command {
     Verify(VerifyWords),
     /// `tour INSTANCE [--seed S]`
     Tour(TourWords),
+    /// `bench SEED N BUDGET OUT`
+    Bench(BenchWords),
 }
 
 /// Why words were not read.

@@ -5,16 +5,16 @@ use Rattle.tspengine.specs.Texts.{optimal_text}
 use Rattle.tspengine.proofs.Writing.{written_optimal}
 use Rattle.tspengine.proofs.outcomes.optimal.Goals as goal
 
-pub returns : goal.returns
-returns c = λ budget.
+pub returns-clause-outcome : goal.returns-clause-outcome
+returns-clause-outcome c = λ budget.
     let i = c.args.instance.now in
     let f = c.args.found.now in
-    let was = c.requires.found in
+    let was = c.requires.found.search in
     let t = tree_of f.tree.nodes in
     let is_table : IsTable i.n f.tree.nodes = subst (λ (n : ℕ). IsTable n f.tree.nodes) (c.n-2.ensures.value ∙ was.cities) c.n-2.ensures.is_table in
     let fits = c.tables_fit.ensures.fit i.n f.tree.nodes is_table in
     let few : open_leaves t + settled t ≤ 1048576 =
     let all = c.nodes.ensures.counted in let number = c.nodes.ensures.number in let most = c.requires.few in omega arith in
     written_optimal c.written_is_faithful.ensures c.tables_fit.ensures.accepted c.accepted_is_optimal.ensures c.tours_are_cycles.ensures.same c.tours_are_cycles.ensures.one
-    i f.best c.in_ok-tour.tour f.length t c.args.proof.items c.in_ok-printed.printed.items c.n.ensures.instance was.is_tour was.long was.sound fits few c.requires.none_open
-    c.requires.proof c.in_ok-tour.ensures (c.in_ok-printed.ensures ∙ ap (optimal_text f.length) c.cities.ensures.value)
+    i f.best c.in_ok-tour.tour f.length t c.args.proof.items c.in_ok-printed.printed.items c.in_ok-line.line.items c.n.ensures.instance was.is_tour was.long was.sound fits few c.requires.none_open
+    c.requires.proof c.in_ok-tour.ensures (c.in_ok-printed.ensures ∙ ap (optimal_text f.length) c.cities.ensures.value) c.in_ok-line.ensures

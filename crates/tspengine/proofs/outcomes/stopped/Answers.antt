@@ -9,7 +9,7 @@ pub returns : goal.returns
 returns c =
     let i = c.args.instance.now in
     let f = c.args.found.now in
-    let was = c.requires.found in
+    let was = c.requires.found.search in
     let t = tree_of f.tree.nodes in
     let is_table : IsTable i.n f.tree.nodes = subst (λ (n : ℕ). IsTable n f.tree.nodes) (c.n-2.ensures.value ∙ was.cities) c.n-2.ensures.is_table in
     let fits = c.tables_fit.ensures.fit i.n f.tree.nodes is_table in
@@ -17,4 +17,4 @@ returns c =
     let all = c.nodes.ensures.counted in let number = c.nodes.ensures.number in let most = c.requires.few in omega arith in
     written_stopped c.written_is_faithful.ensures c.tours_are_cycles.ensures.same
     i c.args.budget f.best f.length t c.args.body.items c.in_ok-printed.printed.items c.n.ensures.instance was.is_tour was.long was.sound fits few c.requires.some_open
-    c.requires.settled was.needed c.requires.body (c.in_ok-printed.ensures ∙ ap (stopped_text f.length) c.open_nodes.ensures)
+    c.requires.settled c.requires.found.split_by c.requires.body (c.in_ok-printed.ensures ∙ ap (stopped_text f.length) c.open_nodes.ensures)

@@ -1,5 +1,6 @@
 use Rattle.tspwords.proofs.Options.{both_taken}
 use Rattle.tspwords.proofs.PlainWords.{paths_taken, budgets_taken, seeds_taken, verify_taken, tour_taken, tour_seeds_taken, verifier_words_taken}
+use Rattle.tspwords.proofs.Positionals.{bench_taken}
 use Rattle.tspwords.proofs.laws.plain_words_are_taken.Goals as goal
 
 pub returns-clause-paths : goal.returns-clause-paths
@@ -22,6 +23,9 @@ returns-clause-tour c = tour_taken
 
 pub returns-clause-tour_seeds : goal.returns-clause-tour_seeds
 returns-clause-tour_seeds c = tour_seeds_taken
+
+pub returns-clause-bench : goal.returns-clause-bench
+returns-clause-bench c = bench_taken
 
 pub returns-clause-verifier : goal.returns-clause-verifier
 returns-clause-verifier c = verifier_words_taken

@@ -4,7 +4,7 @@ use Rattle.clap.specs.Matches.{found_of}
 use Rattle.clap.specs.Walk.{rows_of}
 use Rattle.clap.specs.Simple.{subcommand_of}
 use Rattle.tspwords.specs.Program.{program}
-use Rattle.tspwords.proofs.Taken.{found_rows, found_name, name_of_rows, says_solve, says_tour}
+use Rattle.tspwords.proofs.Taken.{found_rows, found_name, name_of_rows, says_solve, says_tour, says_bench}
 use Rattle.tspwords.proofs.reading.read_command.Goals as goal
 
 pub returns-in-Some-solve-default-clause-says : goal.returns-in-Some-solve-default-clause-says
@@ -32,3 +32,16 @@ returns-in-Some-tour-default-clause-says c =
     (sym name ∙ here.is-tour)
     (found_rows rows (subcommand_of program words) (here.ensures.rows ∙ ap (λ o. option_map (λ p. p.1) o) inner))
     c.in_ok-tour-in-Some-tour-default.ensures
+
+pub returns-in-Some-bench-default-clause-says : goal.returns-in-Some-bench-default-clause-says
+returns-in-Some-bench-default-clause-says c =
+    let words = map string_bytes c.args.words.now in
+    let here = c.in-Some-bench-default in
+    let rows = rows_of (found_of here.found.now) in
+    let m = c.in_ok-matches.matches in
+    let inner = c.in_ok-matches.ensures.rows in
+    let name = found_name here.field-0-0.now (subcommand_of program words) (here.ensures.name ∙ name_of_rows words m inner) in
+    says_bench words rows c.in_ok-bench-in-Some-bench-default.field-0 c.in_ok-matches.ensures.taken
+    (sym name ∙ here.is-bench)
+    (found_rows rows (subcommand_of program words) (here.ensures.rows ∙ ap (λ o. option_map (λ p. p.1) o) inner))
+    c.in_ok-bench-in-Some-bench-default.ensures

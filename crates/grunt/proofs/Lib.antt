@@ -1,0 +1,5 @@
+pub mod WalkLemmas
+pub mod CutLemmas
+pub mod BranchLemmas
+pub mod ReasonLemmas
+pub mod RowLemmas

@@ -1,0 +1,4 @@
+pub mod Light
+pub mod Whys
+pub mod Rounds
+pub mod Splits

@@ -1,0 +1,46 @@
+-- What is known of a node's relaxation between its rounds.
+use Rattle.std.specs.Prelude.{◌≡◌, ℕ, ◌+◌, ◌*◌, ◌≤◌, ◌⊎◌, true, List, length, ◌<ℤ◌, ◌≤ℤ◌}
+use Rattle.tspdef.specs.Instances.{Instance}
+use Rattle.tspdef.specs.Paths.{Condition}
+use Rattle.tspdef.specs.Closings.{Fits}
+use Rattle.tspdef.specs.Bounds.{bound, needed}
+use Rattle.tspdef.specs.Rays.{zero_closing}
+use Rattle.simplex.specs.Lp.{is_counted}
+use Rattle.nodelp.specs.Node.{Node, IsNodeLp, IsClean}
+use Rattle.nodelp.specs.Duals.{closing_of, newest_duals}
+use Rattle.grunt.specs.declared.rounds.Look.{Look}
+use Rattle.grunt.specs.Whys.{LacksNothing}
+
+-- So many rounds are done, the next solve counts, and there is room for the rows of those that are left.
+pub record IsReady (i : Instance) (path : List Condition) (done : ℕ) (node : Node) : Type 0 where
+  pub is_lp : IsNodeLp i path node
+  pub counted : is_counted node.program ≡ true
+  pub rounds : node.program.rounds ≡ done
+  pub rows : length node.program.rows ≤ 2099152 + 4096 * done
+
+-- the node is solved as it stands, and the look shows the closing of its duals and the bound of that
+pub record IsLook (i : Instance) (path : List Condition) (node : Node) (look : Look) : Type 0 where
+  pub is_lp : IsNodeLp i path node
+  pub clean : IsClean node.program
+  pub closing : look.closing ≡ closing_of i.n path node (newest_duals node.program.last)
+  pub fits : Fits i.n path look.closing
+  pub bound_is : look.bound ≡ bound i path look.closing
+
+-- something was added that counts, at most 4,096 rows
+pub record HasGrown (i : Instance) (path : List Condition) (old new : Node) : Type 0 where
+  pub is_lp : IsNodeLp i path new
+  pub counted : is_counted new.program ≡ true
+  pub rounds : new.program.rounds ≡ old.program.rounds
+  pub rows : length new.program.rows ≤ length old.program.rows + 4096
+
+-- the bound closes the node for tours of length l, or nothing is missing, or the rounds are used up
+abbrev pub HasEnded : Instance → List Condition → ℕ → Node → Look → Type 0
+HasEnded i path l node look = (needed l <ℤ look.bound) ⊎ LacksNothing i path node.program ⊎ (node.program.rounds ≡ 200)
+
+-- a node that is solved as it stands and is to be split, for tours of length l
+pub record IsStuck (i : Instance) (path : List Condition) (l : ℕ) (node : Node) : Type 0 where
+  pub is_lp : IsNodeLp i path node
+  pub clean : IsClean node.program
+  pub weak : bound i path (closing_of i.n path node (newest_duals node.program.last)) ≤ℤ needed l
+  pub zeros_weak : bound i path (zero_closing i.n) ≤ℤ needed l
+  pub ended : LacksNothing i path node.program ⊎ (node.program.rounds ≡ 200)

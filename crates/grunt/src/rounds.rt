@@ -1,0 +1,124 @@
+//! Rounds of solving a node's relaxation and adding what its answer lacks.
+ghost use Rattle.std.specs.Prelude.{◌≡◌, ◌+◌, ◌^◌, ◌≤◌, true, false, [], length, None, All, IfOk};
+ghost use Rattle.tspdef.specs.Cuts.{IsCut};
+ghost use Rattle.nodelp.specs.Node.{IsNodeLp, IsClean, HasSolved, IsMissed};
+ghost use Rattle.simplex.specs.Lp.{is_counted};
+ghost use Rattle.worker.specs.Works.{cliques};
+ghost use Rattle.grunt.specs.Whys.{MissesNoSet, LacksNothing};
+ghost use Rattle.grunt.specs.Rounds.{IsReady, IsLook, HasGrown, HasEnded};
+
+use crate::light::light_cuts;
+use branchx::Path;
+use cutform::Cut;
+use nodelp::NodeLp;
+use pricer::{Closing, bound, needed};
+use simplex::{Lp, LpAnswer};
+use std::alloc::{AllocError, Global};
+use tspdef::bound_is_below;
+use tspinst::Instance;
+
+/// How many rounds a node has.
+pub(crate) const ROUNDS: u32 = 200;
+
+/// What a solve shows: the closing of its duals, and its bound.
+#[derive(Drop)]
+pub(crate) struct Look {
+    pub(crate) closing: Closing,
+    pub(crate) bound: i128,
+}
+
+/// Solves a node's relaxation round after round, until the duals close the node, nothing is missing, or the rounds are used
+/// up; what the last solve shows.
+///
+/// Each round but the last adds a row that the values missed or a column of negative reduced cost, so that the next solve
+/// counts as a round of the program too.
+pub(crate) fn rounds(
+    alloc: Global,
+    instance: &Instance,
+    path: &Path,
+    best: u64,
+    node: &mut NodeLp,
+) -> Result<Look, AllocError>
+    requires cities { path.now.n ≡ instance.now.n }
+    requires few { length path.now.conditions ≤ 2 ^ 22 }
+    requires few_cliques { cliques path.now.conditions ≤ 2 ^ 21 }
+    requires node { IsNodeLp instance.now path.now.conditions node.old }
+    requires unsolved { node.old.program.last ≡ None }
+    requires no_cuts { node.old.cuts ≡ [] }
+    requires no_rounds { node.old.program.rounds ≡ 0 }
+    ensures look { IfOk result (IsLook instance.now path.now.conditions node.new) }
+    ensures ended { IfOk result (HasEnded instance.now path.now.conditions best node.new) }
+{
+    let _n = instance.n();
+    for _ in 0..ROUNDS - 1 {
+        let newest = solved(alloc, instance, path, node)?;
+        if newest.bound > needed(best) {
+            return Ok(newest);
+        }
+        if !grow(alloc, instance, path, node)? {
+            return Ok(newest);
+        }
+    }
+    solved(alloc, instance, path, node)
+}
+
+/// Solves a node's relaxation, and looks at what its duals are worth.
+fn solved(
+    alloc: Global,
+    instance: &Instance,
+    path: &Path,
+    node: &mut NodeLp,
+) -> Result<Look, AllocError>
+    requires cities { path.now.n ≡ instance.now.n }
+    requires few { length path.now.conditions ≤ 2 ^ 22 }
+    requires node { IsNodeLp instance.now path.now.conditions node.old }
+    requires new { is_counted node.old.program ≡ true }
+    requires rounds { node.old.program.rounds ≤ 200 }
+    ensures look { IfOk result (IsLook instance.now path.now.conditions node.new) }
+    ensures rounds { IfOk result (λ _. node.new.program.rounds ≡ node.old.program.rounds + 1) }
+    ensures rows { IfOk result (λ _. node.new.program.rows ≡ node.old.program.rows) }
+{
+    bound_is_below();
+    node.solve(alloc)?;
+    let closing = node.closing(alloc, path)?;
+    let bound = bound(instance, path, &closing);
+    Ok(Look { closing, bound })
+}
+
+/// Adds what a node's newest answer lacks, and says whether that was anything.
+fn grow(
+    alloc: Global,
+    instance: &Instance,
+    path: &Path,
+    node: &mut NodeLp,
+) -> Result<bool, AllocError>
+    requires node { IsNodeLp instance.now path.now.conditions node.old }
+    requires clean { IsClean node.old.program }
+    requires room { length node.old.program.rows + 4096 ≤ 4194304 }
+    ensures grown { IfOk result (λ more. more ≡ true → HasGrown instance.now path.now.conditions node.old node.new) }
+    ensures same { IfOk result (λ more. more ≡ false → node.new ≡ node.old) }
+    ensures full { IfOk result (λ more. more ≡ false → LacksNothing instance.now path.now.conditions node.old.program) }
+{
+    let cuts = missed_cuts(alloc, node.lp())?;
+    if cuts.is_empty() {
+        return node.add_negative(alloc, instance, path);
+    }
+    node.add_cuts(alloc, cuts)?;
+    Ok(true)
+}
+
+/// Cuts that the newest values miss by 2^10 units or more, if the newest answer is Solved: none only where they miss no
+/// subtour cut so far.
+fn missed_cuts(alloc: Global, lp: &Lp) -> Result<Vec<Cut>, AllocError>
+    requires clean { IsClean lp.now }
+    ensures cuts { IfOk result (λ cuts. All (IsCut lp.now.n) cuts.items) }
+    ensures missed { IfOk result (λ cuts. All (IsMissed lp.now) cuts.items) }
+    ensures few { IfOk result (λ cuts. length cuts.items ≤ 4096) }
+    ensures solved { IfOk result (λ cuts. 1 ≤ length cuts.items → HasSolved lp.now.last) }
+    ensures none { IfOk result (λ cuts. length cuts.items ≡ 0 → MissesNoSet lp.now.last) }
+{
+    match lp.last() {
+        Some(LpAnswer::Solved { x, .. }) => light_cuts(alloc, x),
+        _ => Ok(Vec::new(alloc)),
+    }
+}

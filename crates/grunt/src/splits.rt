@@ -1,0 +1,114 @@
+//! The end of the work on a node: a tour is offered, and the node is closed, or split with a reason.
+ghost use Rattle.std.specs.Prelude.{◌≡◌, ◌<◌, ◌<ℤ◌, ◌≤ℤ◌, true, false, None, IfOk};
+ghost use Rattle.tspdef.specs.Paths.{DecidesAll};
+ghost use Rattle.tspdef.specs.Bounds as bounds;
+ghost use Rattle.pricer.specs.declared.closing.Report as reports;
+ghost use Rattle.branchx.specs.Branch.{IsSplit};
+ghost use Rattle.treebook.specs.Tree.{branch_of};
+ghost use Rattle.nodelp.specs.Node.{IsClean};
+ghost use Rattle.worker.specs.Splits.{IsNeededSplit, IsOpenQuestion, IsEdge};
+ghost use Rattle.worker.specs.Works.{IsWork, SplitsOnly};
+ghost use Rattle.grunt.specs.Whys.{IsExplained};
+ghost use Rattle.grunt.specs.Rounds.{IsLook, HasEnded};
+
+use crate::offers::shorter_tour;
+use crate::reasons::reason_of;
+use crate::rounds::Look;
+use crate::zeros::zeros_that_close;
+use branchx::{Branch, Path, choose};
+use cyc::{Frac, Tour};
+use neigh::Neigh;
+use nodelp::NodeLp;
+use pricer::{Closing, Report, needed};
+use simplex::{Lp, LpAnswer};
+use std::alloc::{AllocError, Global};
+use tspinst::Instance;
+use worker::Work;
+
+/// Closes a node by its newest duals, where these suffice; else offers the tour to which the values lead, and closes the
+/// node for that one, or splits it.
+pub(crate) fn settle(
+    alloc: Global,
+    instance: &Instance,
+    near: &Neigh,
+    path: &Path,
+    best: u64,
+    seed: u64,
+    node: NodeLp,
+    newest: Look,
+) -> Result<Work, AllocError>
+    requires cities { path.now.n ≡ instance.now.n }
+    requires lists { near.now.n ≡ instance.now.n }
+    requires question { IsOpenQuestion instance.now best path.now.conditions }
+    requires look { IsLook instance.now path.now.conditions node newest }
+    requires ended { HasEnded instance.now path.now.conditions best node newest }
+    ensures splits { IfOk result (λ w. SplitsOnly IsNeededSplit instance.now path.now.conditions best w.report) }
+    ensures work { IfOk result (IsWork instance.now path.now.conditions best) }
+    ensures explained { IfOk result (IsExplained instance.now path.now.conditions best) }
+{
+    if suffices(&newest, best) {
+        return Ok(closed(None, newest.closing));
+    }
+    let (tour, shortest) = shorter_tour(alloc, instance, near, node.lp(), best, seed)?;
+    if suffices(&newest, shortest) {
+        return Ok(closed(tour, newest.closing));
+    }
+    match zeros_that_close(alloc, instance, path, shortest)? {
+        Some(zeros) => Ok(closed(tour, zeros)),
+        None => {
+            let branch = branch_at(alloc, path, node.lp())?;
+            Ok(Work {
+                tour,
+                report: Report::Split(branch),
+                why: Some(reason_of(node)),
+            })
+        }
+    }
+}
+
+/// Whether the bound of a look exceeds what tours of a length need.
+fn suffices(look: &Look, length: u64) -> bool
+    ensures more { result ≡ true → bounds.needed length <ℤ look.now.bound }
+    ensures not { result ≡ false → look.now.bound ≤ℤ bounds.needed length }
+{
+    look.bound > needed(length)
+}
+
+/// A closing as work, without a reason.
+fn closed(tour: Option<Tour>, closing: Closing) -> Work
+    ensures tour { result.tour ≡ tour }
+    ensures report { result.report ≡ Report.Closed closing }
+    ensures why { result.why ≡ None }
+{
+    Work {
+        tour,
+        report: Report::Closed(closing),
+        why: None,
+    }
+}
+
+/// By what to split a node where a pair is undecided.
+fn branch_at(alloc: Global, path: &Path, lp: &Lp) -> Result<Branch, AllocError>
+    requires cities { lp.now.n ≡ path.now.n }
+    requires clean { IsClean lp.now }
+    requires undecided { ¬ DecidesAll path.now.n path.now.conditions }
+    ensures split { IfOk result (IsSplit path.now.n path.now.conditions) }
+    ensures edge { IfOk result (λ b. path.now.n < 6 → IsEdge (branch_of b)) }
+{
+    let chosen = choose(alloc, values(lp), path)?;
+    match chosen {
+        Some(branch) => Ok(branch),
+        None => unreachable!(),
+    }
+}
+
+/// The values of the newest answer.
+fn values(lp: &Lp) -> &Frac
+    requires { IsClean lp.now }
+    ensures { result.now.n ≡ lp.now.n }
+{
+    match lp.last() {
+        Some(LpAnswer::Solved { x, .. }) | Some(LpAnswer::Rough { x, .. }) => x,
+        None => unreachable!(),
+    }
+}

@@ -1,0 +1,136 @@
+//! Nodes that are closed, and one that is split, at their roots.
+use crate::LpWorker;
+use branchx::{Branch, Path};
+use distx::{Kind, Point};
+use neigh::nearest;
+use ports::{MemDesk, Room};
+use pricer::{Fit, Report, bound, fits};
+use std::alloc::Global;
+use std::process::Abort;
+use std::test::Fail;
+use tspinst::{Instance, from_points, read};
+use worker::{Why, Work, Worker};
+
+/// Two triangles of sides 1, and 10 between them.
+const GROUPS: &[u8] =
+    b"TYPE : TSP\nDIMENSION : 6\nEDGE_WEIGHT_TYPE : EXPLICIT\nEDGE_WEIGHT_FORMAT : UPPER_ROW\nEDGE_WEIGHT_SECTION\n1 1 10 10 10\n1 10 10 10\n10 10 10\n1 1\n1\nEOF\n";
+
+/// Two triangles of sides 1 whose corners are joined two by two by sides of no length.
+const PRISM: &[u8] =
+    b"TYPE : TSP\nDIMENSION : 6\nEDGE_WEIGHT_TYPE : EXPLICIT\nEDGE_WEIGHT_FORMAT : UPPER_ROW\nEDGE_WEIGHT_SECTION\n1 1 0 100 100\n1 100 0 100\n100 100 0\n1 1\n1\nEOF\n";
+
+/// A square of side 10, its corners in turn.
+fn square(alloc: Global) -> Result<Instance, Fail> {
+    let points = [
+        Point::new(0, 0),
+        Point::new(10, 0),
+        Point::new(10, 10),
+        Point::new(0, 10),
+    ];
+    Ok(from_points(alloc, Kind::Euc, &points)?)
+}
+
+/// What a text says.
+fn told(alloc: Global, text: &[u8]) -> Result<Instance, Fail> {
+    let room = Room {
+        bytes: 0,
+        paths: 0,
+        calls: 100_000,
+    };
+    let mut desk = MemDesk::new(alloc, text, b"", 65_536, 1, &[], &[], &[], room)?;
+    Ok(read(alloc, &mut desk)?)
+}
+
+/// What a worker does at the root, over lists of three near cities.
+fn root_work<W: Worker>(
+    rt: &impl Abort,
+    alloc: Global,
+    worker: &W,
+    instance: &Instance,
+    best: u64,
+) -> Result<Work, Fail> {
+    assert!(rt; instance.n() > 3);
+    assert!(rt; best < 1 << 42);
+    let near = nearest(alloc, instance, 3)?;
+    let path = Path::new(alloc, instance.n());
+    Ok(worker.work(alloc, instance, &near, &path, best, 1)?)
+}
+
+/// Whether the work closes the root by a closing with a bound above a number.
+fn closes_above(
+    rt: &impl Abort,
+    alloc: Global,
+    instance: &Instance,
+    work: &Work,
+    number: i128,
+) -> bool {
+    let path = Path::new(alloc, instance.n());
+    match &work.report {
+        Report::Closed(closing) => {
+            assert_eq!(rt; fits(instance, &path, closing), Fit::Fits);
+            bound(instance, &path, closing) > number
+        }
+        Report::Split(_) => false,
+    }
+}
+
+/// Whether the reason of a split is a checked answer.
+fn is_checked(work: &Work) -> bool {
+    match &work.why {
+        Some(Why::Checked(_)) => true,
+        _ => false,
+    }
+}
+
+/// Whether the work splits the root by a set.
+fn splits_by(work: &Work, set: &[u32]) -> bool {
+    match &work.report {
+        Report::Split(Branch::Clique(clique)) => clique.cities() == set,
+        _ => false,
+    }
+}
+
+/// The length of the tour that was found; 0 if there is none.
+fn found_length(instance: &Instance, work: &Work) -> u64 {
+    match &work.tour {
+        Some(tour) => {
+            if tour.n() == instance.n() {
+                instance.length(tour)
+            } else {
+                0
+            }
+        }
+        None => 0,
+    }
+}
+
+#[test]
+fn the_square_is_closed_at_its_root(rt: HostRuntime) -> Result<(), Fail> {
+    let alloc = rt.alloc();
+    let instance = square(alloc)?;
+    let work = root_work(&rt, alloc, &LpWorker, &instance, 40)?;
+    assert!(rt; closes_above(&rt, alloc, &instance, &work, 40_894_464));
+    assert!(rt; work.tour.is_none());
+    assert!(rt; work.why.is_none());
+    Ok(())
+}
+
+#[test]
+fn groups_are_closed_by_a_subtour_cut(rt: HostRuntime) -> Result<(), Fail> {
+    let alloc = rt.alloc();
+    let instance = told(alloc, GROUPS)?;
+    let work = root_work(&rt, alloc, &LpWorker, &instance, 24)?;
+    assert!(rt; closes_above(&rt, alloc, &instance, &work, 23 << 20));
+    Ok(())
+}
+
+#[test]
+fn the_prism_is_split_with_a_reason_and_a_tour(rt: HostRuntime) -> Result<(), Fail> {
+    let alloc = rt.alloc();
+    let instance = told(alloc, PRISM)?;
+    let work = root_work(&rt, alloc, &LpWorker, &instance, 300)?;
+    assert!(rt; is_checked(&work));
+    assert!(rt; splits_by(&work, &[0, 1, 2]));
+    assert_eq!(rt; found_length(&instance, &work), 4);
+    Ok(())
+}

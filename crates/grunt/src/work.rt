@@ -1,0 +1,85 @@
+//! The worker with a linear program.
+ghost use Rattle.std.specs.Prelude.{◌≡◌, ◌^◌, ◌<◌, ◌≤◌, true, length, IfOk};
+ghost use Rattle.worker.specs.Splits.{IsNeededSplit};
+ghost use Rattle.grunt.specs.Splits.{needed_splits_stay};
+ghost use Rattle.worker.specs.Works.{IsWork, SplitsOnly, cliques};
+ghost use Rattle.grunt.specs.Whys.{IsExplained};
+
+use crate::rounds::rounds;
+use crate::splits::settle;
+use branchx::Path;
+use neigh::Neigh;
+use nodelp::NodeLp;
+use std::alloc::{AllocError, Global};
+use tspinst::Instance;
+use worker::{Work, Worker, first_look};
+
+/// The worker that closes a node by the duals of a linear program, and splits it only where that is solved to the end.
+pub struct LpWorker;
+
+impl Worker for LpWorker {
+    ghost splits = { IsNeededSplit };
+
+    ghost sure = { true };
+
+    ghost splits_stay = { needed_splits_stay };
+
+    fn work(
+        &self,
+        alloc: Global,
+        instance: &Instance,
+        near: &Neigh,
+        path: &Path,
+        best: u64,
+        seed: u64,
+    ) -> Result<Work, AllocError> {
+        work_by_lp(alloc, instance, near, path, best, seed)
+    }
+}
+
+/// Works on a node by its linear relaxation. The same seed gives the same work.
+///
+/// Zero duals close the node, or the ray where every pair is decided. Else there are up to 200 rounds: the program of the
+/// node's rows and of a core of near pairs is solved; its duals close the node if the bound that they give over all pairs
+/// suffices; if not, the subtour cuts that the values miss are added, or, where they miss none, undecided pairs of
+/// negative reduced cost. Where there is nothing to add, the tour to which the values lead is improved and offered; if
+/// the duals do not close the node for that tour either, the node is split, and the program is handed out with the reason.
+///
+/// A round costs a solve, O(n^2) for the bound and the prices, and flows over the values for the cuts.
+pub fn work_by_lp(
+    alloc: Global,
+    instance: &Instance,
+    near: &Neigh,
+    path: &Path,
+    best: u64,
+    seed: u64,
+) -> Result<Work, AllocError>
+    requires cities { path.now.n ≡ instance.now.n }
+    requires lists { near.now.n ≡ instance.now.n }
+    requires few { length path.now.conditions ≤ 2 ^ 22 }
+    requires few_cliques { cliques path.now.conditions ≤ 2 ^ 21 }
+    requires short { best < 2 ^ 42 }
+    ensures splits { IfOk result (λ w. SplitsOnly IsNeededSplit instance.now path.now.conditions best w.report) }
+    ensures work { IfOk result (IsWork instance.now path.now.conditions best) }
+    ensures explained { IfOk result (IsExplained instance.now path.now.conditions best) }
+{
+    if let Some(work) = first_look(alloc, instance, path, best)? {
+        return Ok(unexplained(work));
+    }
+    let mut node = NodeLp::new(alloc, instance, near, path)?;
+    let newest = rounds(alloc, instance, path, best, &mut node)?;
+    settle(alloc, instance, near, path, best, seed, node, newest)
+}
+
+/// Work without a reason.
+fn unexplained(work: Work) -> Work
+    ensures tour { result.tour ≡ work.tour }
+    ensures report { result.report ≡ work.report }
+    ensures why { result.why ≡ None }
+{
+    Work {
+        tour: work.tour,
+        report: work.report,
+        why: None,
+    }
+}

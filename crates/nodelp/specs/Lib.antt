@@ -1,0 +1,9 @@
+pub mod Shapes
+pub mod Cuts
+pub mod Node
+pub mod Duals
+pub mod Adding
+pub mod Core
+pub mod Pricing
+pub mod Potentials
+pub mod NodeInside

@@ -1,0 +1,20 @@
+//! The linear relaxation of one node of a search, kept between its solves: rows of the cities, of the path's conditions on
+//! sets, and of cuts, over a core of pairs that grows by pricing (Dantzig, Fulkerson and Johnson 1954; Applegate, Bixby,
+//! Chvátal and Cook, "The Traveling Salesman Problem", 2006, chapters 7 and 12).
+//!
+//! - [`NodeLp::new`] sets it up; [`NodeLp::solve`] solves it.
+//! - [`NodeLp::add_cuts`] and [`NodeLp::add_negative`] add what the newest answer lacks.
+//! - [`NodeLp::closing`] is what its duals are worth to a proof.
+#![tactic(auto)]
+
+mod closing;
+mod columns;
+mod cuts;
+mod node;
+mod pricing;
+mod rows;
+
+pub use node::NodeLp;
+
+#[cfg(test)]
+mod tests;

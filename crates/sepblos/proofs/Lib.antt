@@ -1,0 +1,3 @@
+pub mod WeightLemmas
+pub mod ToothLemmas
+pub mod MadeLemmas

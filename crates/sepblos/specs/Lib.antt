@@ -1,0 +1,3 @@
+pub mod Violated
+pub mod Made
+pub mod Blossoms

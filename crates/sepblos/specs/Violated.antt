@@ -1,0 +1,16 @@
+-- Cuts that values on pairs violate by so much that they are worth adding.
+use Rattle.std.specs.Prelude.{◌≡◌, ℕ, ◌^◌, List, pos, ◌≤ℤ◌}
+use Rattle.tspdef.specs.Cuts.{Cut, comb, IsComb, IsCut}
+use Rattle.tspdef.specs.Bounds.{violation}
+use Rattle.cyc.specs.Frac.{Values, value_of}
+
+-- A cut of the cities, violated by 2^10 units or more.
+pub record IsWorth (x : Values) (cut : Cut) : Type 0 where
+  pub is_cut : IsCut x.n cut
+  pub violated : pos (2 ^ 10) ≤ℤ violation (value_of x.entries) x.n cut
+
+-- The comb of a handle and teeth, which are one, violated by 2^10 units or more.
+pub record IsViolatedComb (x : Values) (handle : List ℕ) (teeth : List (List ℕ)) (cut : Cut) : Type 0 where
+  pub whole : IsComb x.n handle teeth
+  pub made : cut ≡ comb x.n handle teeth
+  pub violated : pos (2 ^ 10) ≤ℤ violation (value_of x.entries) x.n cut

@@ -1,0 +1,3 @@
+pub mod Pairs
+pub mod Growth
+pub mod Combs

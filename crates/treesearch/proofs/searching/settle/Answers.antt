@@ -1,0 +1,53 @@
+use Rattle.std.proofs.Common.{◌≡◌, ℕ, List, sym, ◌∙◌, ap, subst, arith}
+use Rattle.std.proofs.lemmas.Result.{on_ok_weaker}
+use Rattle.tspdef.specs.Paths.{Condition}
+use Rattle.branchx.specs.Path.{Conditions}
+use Rattle.treebook.specs.Tree.{Table}
+use Rattle.treebook.specs.Tables.{IsTable, path_at}
+use Rattle.pricer.specs.declared.closing.Report.{Report}
+use Rattle.worker.specs.Works.{IsReport, SplitsOnly, best_after}
+use Rattle.opening.specs.Openings.{opening_length}
+use Rattle.treesearch.specs.Searches.{Takes}
+use Rattle.treesearch.proofs.Needs.{taking_keeps, only_more}
+use Rattle.treesearch.proofs.Lengths.{path_is_short, cliques_are_few, found_is_short}
+use Rattle.treesearch.proofs.searching.settle.Goals as goal
+
+pub work-requires-clause-few : goal.work-requires-clause-few
+work-requires-clause-few g c =
+    let on : c.in_ok-path.path.conditions ≡ path_at c.args.found.now.tree.nodes c.args.node = ap (λ (p : Conditions). p.conditions) c.in_ok-path.ensures in
+    let short = path_is_short c.args.found.now.tree.nodes c.args.node in
+    let within = c.requires.node.within in
+    let few = c.requires.few in
+    rw on (omega arith)
+
+pub work-requires-clause-few_cliques : goal.work-requires-clause-few_cliques
+work-requires-clause-few_cliques g c =
+    let on : c.in_ok-path.path.conditions ≡ path_at c.args.found.now.tree.nodes c.args.node = ap (λ (p : Conditions). p.conditions) c.in_ok-path.ensures in
+    let short = path_is_short c.args.found.now.tree.nodes c.args.node in
+    let some = cliques_are_few (path_at c.args.found.now.tree.nodes c.args.node) in
+    let within = c.requires.node.within in
+    let few = c.requires.few in
+    rw on (omega arith)
+
+pub work-requires-clause-short : goal.work-requires-clause-short
+work-requires-clause-short g c = found_is_short c.args.instance.now c.args.found.now c.n.ensures.instance c.requires.found
+
+pub returns-clause-splits : goal.returns-clause-splits
+returns-clause-splits g c = on_ok_weaker c.take.result (λ takes all.
+    let i = c.args.instance.now in
+    let nodes = c.args.found.now.tree.nodes in
+    let best = c.args.found.now.length in
+    let path = c.in_ok-path.path.conditions in
+    let work = c.in_ok-work.work in
+    let report = c.parts-tour.result.1 in
+    let on : path ≡ path_at nodes c.args.node = ap (λ (p : Conditions). p.conditions) c.in_ok-path.ensures in
+    let is_table : IsTable i.n nodes = subst (λ (n : ℕ). IsTable n nodes) (c.n-2.ensures.value ∙ c.requires.found.cities) c.n-2.ensures.is_table in
+    let fits = subst (λ (p : List Condition). IsReport i p (best_after i best work.tour) report) on
+    (subst (λ (r : Report). IsReport i path (best_after i best work.tour) r) (sym c.parts-tour.ensures.report) (c.in_ok-work.ensures.work c.requires.sure).report) in
+    let may = subst (λ (p : List Condition). SplitsOnly g.W.Worker.splits i p best report) on
+    (subst (λ (r : Report). SplitsOnly g.W.Worker.splits i path best r) (sym c.parts-tour.ensures.report) c.in_ok-work.ensures.splits) in
+    let taken = subst (λ (t : Table). Takes report c.args.node t.nodes c.take.new.found.tree.nodes) c.offer_found.ensures.tree takes in
+    taking_keeps c.tables_are_trees.ensures.leaves c.tables_grow.ensures.closing c.tables_grow.ensures.splitting g.W.Worker.splits i (opening_length i) (best_after i best work.tour)
+    nodes c.take.new.found.tree.nodes c.args.node report is_table c.requires.node fits
+    (only_more g.W.Worker.splits g.W.Worker.splits_stay i (path_at nodes c.args.node) best (opening_length i) report c.requires.found.shorter may) taken all)
+    c.take.ensures.takes

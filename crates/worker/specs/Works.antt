@@ -1,0 +1,50 @@
+-- What work on a node gives.
+use Rattle.std.specs.Prelude.{ℕ, suc, List, [], ◌∷◌, ◌<ℤ◌, min, Option, Some, None, IfSome}
+use Rattle.tspdef.specs.Instances.{Instance, IsTourOf, length_in}
+use Rattle.tspdef.specs.Paths.{Condition, absent, present, two, four}
+use Rattle.tspdef.specs.Closings.{Closing, Fits}
+use Rattle.tspdef.specs.Bounds.{bound, needed}
+use Rattle.branchx.specs.Branch.{IsSplit}
+use Rattle.treebook.specs.Tree.{branch_of}
+use Rattle.pricer.specs.declared.closing.Report.{Report}
+use Rattle.pricer.specs.declared.closing.Report.TheVariants.{Closed, Split}
+use Rattle.worker.specs.Splits.{Splits, IsOpenQuestion}
+use Rattle.worker.specs.declared.work.Work.{Work}
+
+-- how many conditions on sets a path has
+abbrev pub cliques : List Condition → ℕ
+cliques [] = 0
+cliques (absent u v ∷ path) = cliques path
+cliques (present u v ∷ path) = cliques path
+cliques (two s ∷ path) = suc (cliques path)
+cliques (four s ∷ path) = suc (cliques path)
+
+-- the lesser of the best length and that of a tour, if there is one
+abbrev pub best_after : Instance → ℕ → Option (List ℕ) → ℕ
+best_after i best None = best
+best_after i best (Some tour) = min best (length_in i tour)
+
+-- the closing fits the node, and its bound exceeds what tours of length l need
+pub record Closes (i : Instance) (path : List Condition) (l : ℕ) (c : Closing) : Type 0 where
+  pub fits : Fits i.n path c
+  pub exceeds : needed l <ℤ (bound i path c)
+
+-- a closing that closes the node for tours of the length, or an undecided pair or a new proper set
+abbrev pub IsReport : Instance → List Condition → ℕ → Report → Type 0
+IsReport i path l (Closed c) = Closes i path l c
+IsReport i path l (Split b) = IsSplit i.n path b
+
+-- a split is one that is so for tours of this length
+abbrev pub SplitsOnly : Splits → Instance → List Condition → ℕ → Report → Type 0
+SplitsOnly S i path l (Closed c) = Unit {0}
+SplitsOnly S i path l (Split b) = S i path l (branch_of b)
+
+-- the report splits the node
+abbrev pub IsSplitting : Report → Type 0
+IsSplitting (Closed c) = ⊥
+IsSplitting (Split b) = Unit {0}
+
+-- A tour of the instance, if one was found, and a report that is taken while the node is open, once the tour is offered.
+pub record IsWork (i : Instance) (path : List Condition) (best : ℕ) (w : Work) : Type 0 where
+  pub is_tour : IfSome w.tour (IsTourOf i)
+  pub report : IsReport i path (best_after i best w.tour) w.report

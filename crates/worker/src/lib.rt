@@ -1,0 +1,19 @@
+//! Work on one node of a search, and the plain worker.
+//!
+//! - [`Worker`] is who works: given a node's path and the best length, it closes the node or splits it.
+//! - [`Work`] is what it gives: a report, perhaps a tour found on the way, and of a split by a linear program the reason.
+//! - [`PlainWorker`] knows zero duals, rays and splits alone; [`work_plainly`] is its work, and [`first_look`] what it does
+//!   where it needs no split.
+#![tactic(auto)]
+
+mod closings;
+mod plain;
+mod work;
+mod workers;
+
+pub use plain::{PlainWorker, first_look, work_plainly};
+pub use work::{Why, Work};
+pub use workers::Worker;
+
+#[cfg(test)]
+mod tests;

@@ -1,0 +1,188 @@
+//! The plain worker.
+ghost use Rattle.std.specs.Prelude.{◌≡◌, ℕ, ◌^◌, ◌<◌, ◌≤◌, ◌<ℤ◌, ◌≤ℤ◌, ◌↔◌, true, false, min, List, [], IfOk, IfSome, IsNone, IsTrue};
+ghost use Rattle.tspdef.specs.Instances.{IsTourOf, length_in};
+ghost use Rattle.tspdef.specs.Paths.{DecidesAll};
+ghost use Rattle.tspdef.specs.Rays.{AreStepsOf};
+ghost use Rattle.tspdef.specs.Closings.{IsClosing};
+ghost use Rattle.tspdef.specs.Bounds as bounds;
+ghost use Rattle.branchx.specs.Branch.{IsSplit};
+ghost use Rattle.treebook.specs.Tree.{branch_of};
+ghost use Rattle.worker.specs.Splits.{IsOpenQuestion, IsNeededSplit, IsEdge, needed_splits_stay};
+ghost use Rattle.worker.specs.Works.{IsWork, SplitsOnly, IsSplitting, best_after};
+
+use crate::closings::zero_closing;
+use crate::work::Work;
+use crate::workers::Worker;
+use branchx::{Branch, Path, choose};
+use cyc::{Frac, FracError, Tour};
+use neigh::Neigh;
+use pathtour::{tour_of, used_pairs_are_one_tour};
+use pricer::{Closing, Report, bound, needed, ray};
+use std::alloc::{AllocError, Global};
+use tspinst::Instance;
+
+/// The worker that closes a node by zero duals or a ray, and else splits it by what `choose` takes where no pair has a value.
+pub struct PlainWorker;
+
+impl Worker for PlainWorker {
+    ghost splits = { IsNeededSplit };
+
+    ghost sure = { true };
+
+    ghost splits_stay = { needed_splits_stay };
+
+    fn work(
+        &self,
+        alloc: Global,
+        instance: &Instance,
+        _near: &Neigh,
+        path: &Path,
+        best: u64,
+        _seed: u64,
+    ) -> Result<Work, AllocError> {
+        work_plainly(alloc, instance, path, best)
+    }
+}
+
+/// Closes a node where zero duals or a ray do, and else splits it: exactly where zero duals do not close it and a pair is
+/// undecided.
+pub fn work_plainly(
+    alloc: Global,
+    instance: &Instance,
+    path: &Path,
+    best: u64,
+) -> Result<Work, AllocError>
+    requires cities { path.now.n ≡ instance.now.n }
+    requires short { best < 2 ^ 42 }
+    ensures splits { IfOk result (λ w. SplitsOnly IsNeededSplit instance.now path.now.conditions best w.report) }
+    ensures work { IfOk result (IsWork instance.now path.now.conditions best) }
+    ensures exactly { IfOk result (λ w. IsSplitting w.report ↔ IsOpenQuestion instance.now best path.now.conditions) }
+{
+    if let Some(work) = first_look(alloc, instance, path, best)? {
+        return Ok(work);
+    }
+    let branch = first_branch(alloc, instance, path)?;
+    Ok(Work {
+        tour: None,
+        report: Report::Split(branch),
+        why: None,
+    })
+}
+
+/// By what a node is split where no pair has a value and one is undecided.
+fn first_branch(alloc: Global, instance: &Instance, path: &Path) -> Result<Branch, AllocError>
+    requires cities { path.now.n ≡ instance.now.n }
+    requires undecided { ¬ DecidesAll path.now.n path.now.conditions }
+    ensures split { IfOk result (IsSplit path.now.n path.now.conditions) }
+    ensures edge { IfOk result (λ b. path.now.n < 6 → IsEdge (branch_of b)) }
+{
+    let values = no_values(alloc, instance.n())?;
+    match choose(alloc, &values, path)? {
+        Some(branch) => Ok(branch),
+        None => unreachable!(),
+    }
+}
+
+/// The work on a node that needs no split: zero duals, where they close it; and where every pair is decided the tour that the
+/// path leaves, if there is one, and the ray that then closes the node. Nothing where zero duals do not close it and a pair
+/// is undecided.
+pub fn first_look(
+    alloc: Global,
+    instance: &Instance,
+    path: &Path,
+    best: u64,
+) -> Result<Option<Work>, AllocError>
+    requires cities { path.now.n ≡ instance.now.n }
+    requires short { best < 2 ^ 42 }
+    ensures work { IfOk result (λ w. IfSome w (IsWork instance.now path.now.conditions best)) }
+    ensures closed { IfOk result (λ w. IfSome w (λ it. ¬ IsSplitting it.report)) }
+    ensures none { IfOk result (λ w. IsNone w ↔ IsOpenQuestion instance.now best path.now.conditions) }
+{
+    let zeros = zero_closing(alloc, instance.n())?;
+    if closes(instance, path, &zeros, best) {
+        return Ok(Some(closed(None, zeros)));
+    }
+    if has_undecided(alloc, instance, path)? {
+        return Ok(None);
+    }
+    let (tour, shortest) = used_tour(alloc, instance, path, best)?;
+    let closing = ray(alloc, instance, path, shortest)?;
+    Ok(Some(closed(tour, closing)))
+}
+
+/// A closing as work, without a reason.
+fn closed(tour: Option<Tour>, closing: Closing) -> Work
+    ensures tour { result.tour ≡ tour }
+    ensures report { result.report ≡ Report.Closed closing }
+{
+    Work {
+        tour,
+        report: Report::Closed(closing),
+        why: None,
+    }
+}
+
+/// Whether a closing's bound exceeds what the best length needs.
+fn closes(instance: &Instance, path: &Path, closing: &Closing, best: u64) -> bool
+    requires cities { path.now.n ≡ instance.now.n }
+    requires closing { IsClosing instance.now.n path.now.conditions closing.now }
+    ensures more { result ≡ true → bounds.needed best <ℤ (bounds.bound instance.now path.now.conditions closing.now) }
+    ensures not { result ≡ false → bounds.bound instance.now path.now.conditions closing.now ≤ℤ bounds.needed best }
+{
+    bound(instance, path, closing) > needed(best)
+}
+
+/// The lesser of two lengths.
+fn lesser(a: u64, b: u64) -> u64
+    ensures value { result ≡ min a b }
+    ensures least { result ≤ b }
+{
+    a.min(b)
+}
+
+/// Whether a path leaves a pair undecided.
+fn has_undecided(alloc: Global, instance: &Instance, path: &Path) -> Result<bool, AllocError>
+    requires { path.now.n ≡ instance.now.n }
+    ensures { IfOk result (λ b. IsTrue b ↔ (¬ DecidesAll instance.now.n path.now.conditions)) }
+{
+    let values = no_values(alloc, instance.n())?;
+    Ok(choose(alloc, &values, path)?.is_some())
+}
+
+/// The tour whose steps are the pairs that a path uses, if there is one, and the lesser of the best length and its length.
+fn used_tour(
+    alloc: Global,
+    instance: &Instance,
+    path: &Path,
+    best: u64,
+) -> Result<(Option<Tour>, u64), AllocError>
+    requires cities { path.now.n ≡ instance.now.n }
+    ensures tour { IfOk result (λ r. IfSome r.0 (IsTourOf instance.now)) }
+    ensures lesser { IfOk result (λ r. r.1 ≡ best_after instance.now best r.0) }
+    ensures least { IfOk result (λ r. (tour : List ℕ) → IsTourOf instance.now tour → AreStepsOf instance.now.n path.now.conditions tour
+        → r.1 ≤ length_in instance.now tour) }
+{
+    used_pairs_are_one_tour();
+    let _n = instance.n();
+    match tour_of(alloc, path)? {
+        Some(tour) => {
+            let _whole = tour.cities();
+            let length = instance.length(&tour);
+            Ok((Some(tour), lesser(best, length)))
+        }
+        None => Ok((None, best)),
+    }
+}
+
+/// No pair has a value.
+fn no_values(alloc: Global, n: u32) -> Result<Frac, AllocError>
+    requires many { 3 ≤ n }
+    requires few { n ≤ 2000 }
+    ensures { IfOk result (λ x. x ≡ record { n = n; entries = [] }) }
+{
+    match Frac::new(alloc, n, Vec::new(alloc)) {
+        Ok(values) => Ok(values),
+        Err(FracError::NoMemory) => Err(AllocError),
+        Err(FracError::BadEntry(_)) => unreachable!(),
+    }
+}

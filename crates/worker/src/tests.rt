@@ -1,0 +1,80 @@
+use crate::{PlainWorker, Work, Worker};
+use branchx::{Branch, Cond, Path};
+use distx::{Kind, Point};
+use neigh::nearest;
+use pricer::Report;
+use std::alloc::{AllocError, Global};
+use std::test::Fail;
+use tspinst::{Instance, from_points};
+
+/// The four corners of a square of side 10.
+fn square(alloc: Global) -> Result<Instance, AllocError> {
+    let corners = [
+        Point::new(0, 0),
+        Point::new(0, 10),
+        Point::new(10, 10),
+        Point::new(10, 0),
+    ];
+    from_points(alloc, Kind::Euc, &corners)
+}
+
+/// Whether the work splits a node by a pair, without a tour or a reason.
+fn splits_by(work: &Work, u: u32, v: u32) -> bool {
+    match &work.report {
+        Report::Split(Branch::Edge(a, b)) => {
+            *a == u && *b == v && work.tour.is_none() && work.why.is_none()
+        }
+        _ => false,
+    }
+}
+
+/// Whether the work closes a node by duals that are all 0.
+fn closes_by_zeros(work: &Work) -> bool {
+    match &work.report {
+        Report::Closed(closing) => {
+            closing.city() == [0i64, 0, 0, 0].as_slice()
+                && closing.cuts().is_empty()
+                && closing.conds().is_empty()
+        }
+        Report::Split(_) => false,
+    }
+}
+
+/// Whether the tour that was found is this one.
+fn finds(work: &Work, cities: &[u32]) -> bool {
+    match &work.tour {
+        Some(tour) => tour.cities() == cities,
+        None => false,
+    }
+}
+
+#[test]
+fn the_plain_worker_splits_a_square(rt: HostRuntime) -> Result<(), Fail> {
+    let alloc = rt.alloc();
+    let square = square(alloc)?;
+    assert_eq!(rt; square.n(), 4);
+    let near = nearest(alloc, &square, 3)?;
+    let path = Path::new(alloc, 4);
+    let work = PlainWorker.work(alloc, &square, &near, &path, 40, 1)?;
+    assert!(rt; splits_by(&work, 0, 1));
+    Ok(())
+}
+
+#[test]
+fn a_path_that_decides_all_is_closed(rt: HostRuntime) -> Result<(), Fail> {
+    let alloc = rt.alloc();
+    let square = square(alloc)?;
+    assert_eq!(rt; square.n(), 4);
+    let near = nearest(alloc, &square, 3)?;
+    let mut path = Path::new(alloc, 4);
+    path.push(Cond::Present(0, 1))?;
+    path.push(Cond::Present(1, 2))?;
+    path.push(Cond::Present(2, 3))?;
+    path.push(Cond::Present(0, 3))?;
+    path.push(Cond::Absent(0, 2))?;
+    path.push(Cond::Absent(1, 3))?;
+    let work = PlainWorker.work(alloc, &square, &near, &path, 48, 1)?;
+    assert!(rt; finds(&work, &[0, 1, 2, 3]));
+    assert!(rt; closes_by_zeros(&work));
+    Ok(())
+}

@@ -1,0 +1,43 @@
+//! Who works on nodes.
+ghost use Rattle.std.specs.Prelude.{◌≡◌, ℕ, ◌^◌, ◌<◌, ◌≤◌, Bool, true, List, length, IfOk};
+ghost use Rattle.worker.specs.Splits.{Splits, StayForMore};
+ghost use Rattle.worker.specs.Works.{IsWork, SplitsOnly, cliques};
+
+use crate::work::Work;
+use branchx::Path;
+use neigh::Neigh;
+use std::alloc::{AllocError, Global};
+use tspinst::Instance;
+
+/// Who works on nodes: an untrusted part of a solver, since a report is looked at before it is taken.
+///
+/// Two things are known of a kind of worker. `splits` says when it may split a node of an instance with some path, for
+/// tours of a length, by a branch; it stays so for greater lengths. Where it is `sure`, its report fits the node, a tour that it found is one
+/// of the instance, and a closing's bound exceeds what the lesser of the best length handed in and the found tour's needs.
+pub trait Worker {
+    ghost splits: { Splits };
+
+    ghost sure: { Bool };
+
+    ghost splits_stay: { StayForMore splits };
+
+    /// Works on the node with this path, where the best tour so far has this length. The same seed gives the same work.
+    ///
+    /// A path has at most 2^22 conditions, 2^21 of them on sets: one that decides every pair of 2,000 cities has room for as many sets.
+    fn work(
+        &self,
+        alloc: Global,
+        instance: &Instance,
+        near: &Neigh,
+        path: &Path,
+        best: u64,
+        seed: u64,
+    ) -> Result<Work, AllocError>
+        requires cities { path.now.n ≡ instance.now.n }
+        requires lists { near.now.n ≡ instance.now.n }
+        requires few { length path.now.conditions ≤ 2 ^ 22 }
+        requires few_cliques { cliques path.now.conditions ≤ 2 ^ 21 }
+        requires short { best < 2 ^ 42 }
+        ensures splits { IfOk result (λ w. SplitsOnly splits instance.now path.now.conditions best w.report) }
+        ensures work { sure ≡ true → IfOk result (IsWork instance.now path.now.conditions best) };
+}
