@@ -55,6 +55,4 @@ fn stop_at(alloc: Global, n: u32, t: u32) -> Result<Vec<bool>, AllocError>
 }
 
 #[cfg(test)]
-mod plain;
-#[cfg(test)]
 mod tests;

@@ -1,7 +1,9 @@
 use super::*;
-use crate::plain::{bits, crossing, drawn, holds, least, next};
 use cyc::Entry;
 use std::test::Fail;
+use tspplain::bits::{bit, bits_of, holds};
+use tspplain::drawn::{loose_values, next};
+use tspplain::separation::{crossing, least_between};
 
 /// Three cities, of which the pairs 0 1, 0 2 and 1 2 have 3, 1 and 2 units.
 fn triangle(alloc: Global) -> Result<Frac, Fail> {
@@ -59,22 +61,18 @@ fn the_largest_values_are_added_up(rt: HostRuntime) -> Result<(), Fail> {
 #[test]
 fn flows_end_at_the_least_of_all_sets(rt: HostRuntime) -> Result<(), Fail> {
     for number in 0..500u64 {
-        let x = drawn(rt.alloc(), number)?;
+        let x = loose_values(rt.alloc(), number)?;
         let n = x.n();
         let s = (next(number) >> 40) as u32 % n;
         let t = (s + 1 + (next(number) >> 50) as u32 % (n - 1)) % n;
         assert!(rt; s != t);
         let parted = flow(rt.alloc(), &x, s, t)?;
-        let side = bits(&parted.side);
+        let side = bits_of(&parted.side);
         assert!(rt; holds(side, s) && !holds(side, t), "at {number}");
         assert_eq!(rt; parted.value, crossing(&x, side), "at {number}");
         assert_eq!(rt;
             parted.value,
-            least(
-                &x,
-                1u32.checked_shl(s).unwrap_or(0),
-                1u32.checked_shl(t).unwrap_or(0)
-            ),
+            least_between(&x, bit(s), bit(t)),
             "at {number}"
         );
     }
@@ -84,7 +82,7 @@ fn flows_end_at_the_least_of_all_sets(rt: HostRuntime) -> Result<(), Fail> {
 #[test]
 fn flows_to_several_stops_keep_to_a_limit(rt: HostRuntime) -> Result<(), Fail> {
     for number in 0..200u64 {
-        let x = drawn(rt.alloc(), number)?;
+        let x = loose_values(rt.alloc(), number)?;
         let network = Network::of(rt.alloc(), &x)?;
         let n = network.n();
         assert_eq!(rt; x.n(), n);
@@ -95,14 +93,10 @@ fn flows_to_several_stops_keep_to_a_limit(rt: HostRuntime) -> Result<(), Fail> {
         }
         assert_eq!(rt; stops.len(), n as usize);
         assert!(rt; !stops[0]);
-        let all = least(
-            &x,
-            1,
-            marks & 0x7fe & 1u32.checked_shl(n).unwrap_or(0).wrapping_sub(1),
-        );
+        let all = least_between(&x, 1, marks & 0x7fe & bit(n).wrapping_sub(1));
         let side = network.flow(rt.alloc(), 0, &stops)?;
         assert_eq!(rt; side.value, all, "at {number}");
-        assert_eq!(rt; crossing(&x, bits(&side.side)), all, "at {number}");
+        assert_eq!(rt; crossing(&x, bits_of(&side.side)), all, "at {number}");
         assert!(rt;
             network.flow_below(rt.alloc(), 0, &stops, all)?.is_none(),
             "at {number}"

@@ -60,6 +60,4 @@ fn blossom(alloc: Global, x: &Frac, handle: &CitySet) -> Result<Option<Cut>, All
 }
 
 #[cfg(test)]
-mod plain;
-#[cfg(test)]
 mod tests;

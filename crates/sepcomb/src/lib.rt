@@ -86,6 +86,4 @@ fn is_large(handle: &CitySet) -> bool
 }
 
 #[cfg(test)]
-mod plain;
-#[cfg(test)]
 mod tests;

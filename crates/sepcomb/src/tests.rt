@@ -1,21 +1,19 @@
 use crate::combs;
-use crate::plain::{bit, drawn, plain};
 use cutform::Cut;
 use cyc::{Entry, Frac};
 use std::alloc::{AllocError, Global};
 use std::test::Fail;
+use tspplain::bits::bits_of;
+use tspplain::drawn::comb_values;
+use tspplain::separation;
 
 /// The sets of each cut, as bits.
-fn bits_of(alloc: Global, cuts: &[Cut]) -> Result<Vec<Vec<u32>>, AllocError> {
+fn sets_of(alloc: Global, cuts: &[Cut]) -> Result<Vec<Vec<u32>>, AllocError> {
     let mut all = Vec::new(alloc);
     for cut in cuts {
         let mut sets = Vec::new(alloc);
         for set in cut.sets() {
-            let mut bits = 0;
-            for city in set.cities() {
-                bits |= bit(*city);
-            }
-            sets.push(bits)?;
+            sets.push(bits_of(set))?;
         }
         all.push(sets)?;
     }
@@ -42,6 +40,9 @@ fn a_prism_has_a_comb_at_each_end(rt: HostRuntime) -> Result<(), Fail> {
     assert_eq!(rt; cuts.len(), 2);
     assert_eq!(rt; cuts[0].sets()[0].cities(), [0, 1, 2].as_slice());
     assert_eq!(rt; cuts[1].sets()[0].cities(), [3, 4, 5].as_slice());
+    for sets in &sets_of(alloc, &cuts)? {
+        assert_eq!(rt; separation::missed(&x, sets), 1_048_576);
+    }
     Ok(())
 }
 
@@ -50,9 +51,9 @@ fn combs_are_those_of_a_plain_program(rt: HostRuntime) -> Result<(), Fail> {
     let alloc = rt.alloc();
     let mut many = 0u64;
     let mut grown = 0u64;
-    for number in 0..250u64 {
-        let x = drawn(alloc, number)?;
-        let expected = plain(alloc, &x)?;
+    for number in 0..500u64 {
+        let x = comb_values(alloc, number)?;
+        let expected = separation::combs(alloc, &x)?;
         for sets in &expected {
             many = many.saturating_add(1);
             for set in sets.iter().skip(1) {
@@ -62,7 +63,7 @@ fn combs_are_those_of_a_plain_program(rt: HostRuntime) -> Result<(), Fail> {
             }
         }
         let cuts = combs(alloc, &x)?;
-        assert!(rt; bits_of(alloc, &cuts)? == expected, "at {number}");
+        assert!(rt; sets_of(alloc, &cuts)? == expected, "at {number}");
     }
     assert!(rt; many > 15, "only {many}");
     assert!(rt; grown > 2, "only {grown} grown teeth");

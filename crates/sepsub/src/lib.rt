@@ -84,6 +84,4 @@ fn swept_to(alloc: Global, x: &Frac, reach: u64) -> Result<Swept, AllocError>
 }
 
 #[cfg(test)]
-mod plain;
-#[cfg(test)]
 mod tests;

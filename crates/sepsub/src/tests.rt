@@ -1,7 +1,9 @@
 use super::*;
-use crate::plain::{bits, crossing, drawn, least};
 use cyc::Entry;
 use std::test::Fail;
+use tspplain::bits::bits_of;
+use tspplain::drawn::loose_values;
+use tspplain::separation::{crossing, least_of_all};
 
 /// One length in units.
 const ONE: u32 = 0x10_0000;
@@ -34,17 +36,17 @@ fn a_triangle_has_a_least_set(rt: HostRuntime) -> Result<(), Fail> {
 #[test]
 fn the_least_set_is_the_least_of_all(rt: HostRuntime) -> Result<(), Fail> {
     for number in 0..500u64 {
-        let x = drawn(rt.alloc(), number)?;
+        let x = loose_values(rt.alloc(), number)?;
         let swept = sweep(rt.alloc(), &x)?;
         let weight = swept.least.weight;
-        assert_eq!(rt; weight, least(&x), "at {number}");
-        let set = bits(&swept.least.set);
+        assert_eq!(rt; weight, least_of_all(&x), "at {number}");
+        let set = bits_of(&swept.least.set);
         assert!(rt; swept.least.set.is_proper() && set & 1 == 1, "at {number}");
         assert_eq!(rt; crossing(&x, set), weight, "at {number}");
         assert_eq!(rt; swept.sets.is_empty(), weight >= LIGHT, "at {number}");
         for light in &swept.sets {
             assert!(rt;
-                light.is_proper() && crossing(&x, bits(light)) < LIGHT,
+                light.is_proper() && crossing(&x, bits_of(light)) < LIGHT,
                 "at {number}"
             );
         }

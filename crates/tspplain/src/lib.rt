@@ -1,15 +1,19 @@
 //! The definitions of `tspdef` as plain, slow programs, written to be read: what later bodies are compared with.
 //!
 //! Each public function computes one definition, and its contract is that definition. Recursion goes as the
-//! definition's does. Lengths are in the instance's own unit, duals and bounds in units of 2^-20 of it.
+//! definition's does. Lengths are in the instance's own unit, duals and bounds in units of 2^-20 of it. Only the programs over
+//! sets as bits ([`bits`], [`drawn`], [`separation`]) have no contract: they are for tests.
 #![tactic(auto)]
 
+pub mod bits;
 pub mod bounds;
 pub mod closings;
 pub mod cuts;
 pub mod distances;
+pub mod drawn;
 pub mod paths;
 pub mod search;
+pub mod separation;
 pub mod sets;
 #[cfg(test)]
 mod tests;

@@ -1,0 +1,27 @@
+//! Sets of fewer than 32 cities as bits: city c is in the set where bit c is 1.
+
+use cyc::CitySet;
+
+/// The set of one city.
+pub fn bit(city: u32) -> u32 {
+    1u32.checked_shl(city).unwrap_or(0)
+}
+
+/// Whether a city is in the set.
+pub fn holds(set: u32, city: u32) -> bool {
+    set & bit(city) != 0
+}
+
+/// Whether a set has some cities of another, and not all.
+pub fn parts(set: u32, other: u32) -> bool {
+    set & other != 0 && set & other != other
+}
+
+/// A set of cities as bits.
+pub fn bits_of(set: &CitySet) -> u32 {
+    let mut all = 0;
+    for city in set.cities() {
+        all |= bit(*city);
+    }
+    all
+}
