@@ -1,9 +1,10 @@
 //! Values on pairs of cities that look drawn: what separators are tried on. Equal numbers give equal values.
 
-use cyc::{Entry, Frac, FracError};
-use std::alloc::{AllocError, Global};
+ghost use Rattle.std.specs.Prelude.{◌≤◌};
 
 use crate::bits::{bit, parts};
+use cyc::{Entry, Frac, FracError};
+use std::alloc::{AllocError, Global};
 
 /// One length in units.
 const ONE: u32 = 0x10_0000;
@@ -92,12 +93,16 @@ fn comb_value(word: u64, across: bool, matched: bool) -> u32 {
     }
 }
 
-/// Values on the pairs of 6 to 12 cities on two sides, that of the mask and the other: in the middle within a side, a matching
-/// near one length across; for combs, some pairs near one length within the second side too.
-fn two_sided(alloc: Global, number: u64, mask: u32, for_combs: bool) -> Result<Frac, FracError> {
-    let mut state = next(next(number ^ 0x5eed));
-    let n = 6 + (state >> 40) as u32 % 7;
-    let side = (state >> 33) as u32 | mask;
+/// Values on the pairs of `n` cities on two sides, that of the mask and the other: in the middle within a side, a matching near
+/// one length across; for combs, some pairs near one length within the second side too.
+fn two_sided_entries(
+    alloc: Global,
+    n: u32,
+    side: u32,
+    seed: u64,
+    for_combs: bool,
+) -> Result<Vec<Entry>, AllocError> {
+    let mut state = seed;
     let mut met = 0;
     let mut entries = Vec::new(alloc);
     for u in 0..n {
@@ -125,15 +130,29 @@ fn two_sided(alloc: Global, number: u64, mask: u32, for_combs: bool) -> Result<F
             }
         }
     }
-    Frac::new(alloc, n, entries)
+    Ok(entries)
+}
+
+/// How many cities, from 6 to 12.
+fn six_to_twelve(word: u64) -> u32
+    ensures many { 6 ≤ result }
+    ensures few { result ≤ 12 }
+{
+    6 + (word >> 40) as u32 % 7
 }
 
 /// Values on the pairs of 6 to 12 cities, many of which have blossoms.
 pub fn blossom_values(alloc: Global, number: u64) -> Result<Frac, FracError> {
-    two_sided(alloc, number, 0, false)
+    let seed = next(next(number ^ 0x5eed));
+    let n = six_to_twelve(seed);
+    let entries = two_sided_entries(alloc, n, (seed >> 33) as u32, seed, false)?;
+    Frac::new(alloc, n, entries)
 }
 
 /// Values on the pairs of 6 to 12 cities, many of which have combs, some with teeth that grow.
 pub fn comb_values(alloc: Global, number: u64) -> Result<Frac, FracError> {
-    two_sided(alloc, number, 7, true)
+    let seed = next(next(number ^ 0x5eed));
+    let n = six_to_twelve(seed);
+    let entries = two_sided_entries(alloc, n, (seed >> 33) as u32 | 7, seed, true)?;
+    Frac::new(alloc, n, entries)
 }

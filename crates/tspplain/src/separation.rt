@@ -3,10 +3,9 @@
 //! These programs have no contracts: the separators that tests compare with them have (those of `maxflow`, `sepsub`, `sepblos`
 //! and `sepcomb`), and a program that shares no line with them is what the comparison is worth.
 
+use crate::bits::{bit, parts};
 use cyc::Frac;
 use std::alloc::{AllocError, Global};
-
-use crate::bits::{bit, parts};
 
 /// One length in units.
 const ONE: u32 = 0x10_0000;
