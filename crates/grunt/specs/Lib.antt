@@ -1,4 +1,3 @@
-pub mod Light
+pub mod Missed
 pub mod Whys
 pub mod Rounds
-pub mod Splits

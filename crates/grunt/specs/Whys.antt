@@ -16,7 +16,7 @@ use Rattle.worker.specs.Works.{best_after}
 use Rattle.worker.specs.declared.work.Work.{Work}
 use Rattle.worker.specs.declared.work.Why.{Why}
 use Rattle.worker.specs.declared.work.Why.TheVariants.{Rounds, Rough, Checked}
-use Rattle.grunt.specs.Light.{HasNoLightSet}
+use Rattle.grunt.specs.Missed.{MissesNoCut}
 
 -- an answer is Rough
 abbrev pub HasRough : Option LpAnswer → Type 0
@@ -24,15 +24,15 @@ HasRough (Some (answers.Solved x duals gap)) = ⊥
 HasRough (Some (answers.Rough x duals fault gap)) = Unit {0}
 HasRough None = ⊥
 
--- if the answer is Solved, no proper set is light at its values
-abbrev pub MissesNoSet : Option LpAnswer → Type 0
-MissesNoSet (Some (answers.Solved x duals gap)) = HasNoLightSet x
-MissesNoSet (Some (answers.Rough x duals fault gap)) = Unit {0}
-MissesNoSet None = Unit {0}
+-- if the answer is Solved, its values miss no subtour cut, and there is neither a blossom nor a comb for them
+abbrev pub MissesNone : Option LpAnswer → Type 0
+MissesNone (Some (answers.Solved x duals gap)) = MissesNoCut x
+MissesNone (Some (answers.Rough x duals fault gap)) = Unit {0}
+MissesNone None = Unit {0}
 
--- a Solved answer misses no subtour cut, and no undecided pair outside the core has a negative reduced cost
+-- a Solved answer misses no cut of the separations, and no undecided pair outside the core has a negative reduced cost
 pub record LacksNothing (i : Instance) (path : List Condition) (p : Program) : Type 0 where
-  pub sets : MissesNoSet p.last
+  pub cuts : MissesNone p.last
   pub priced : IsPriced i path p (newest_duals p.last)
 
 -- A node's program, to which nothing was added since its last solve, and neither the closing that its duals make nor zero

@@ -5,13 +5,13 @@
 #![tactic(auto)]
 
 mod light;
+mod missed;
 mod offers;
 mod reasons;
 mod rounds;
 mod splits;
 mod walk;
 mod work;
-mod zeros;
 
 pub use work::{LpWorker, work_by_lp};
 

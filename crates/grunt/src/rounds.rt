@@ -4,10 +4,10 @@ ghost use Rattle.tspdef.specs.Cuts.{IsCut};
 ghost use Rattle.nodelp.specs.Node.{IsNodeLp, IsClean, HasSolved, IsMissed};
 ghost use Rattle.simplex.specs.Lp.{is_counted};
 ghost use Rattle.worker.specs.Works.{cliques};
-ghost use Rattle.grunt.specs.Whys.{MissesNoSet, LacksNothing};
+ghost use Rattle.grunt.specs.Whys.{MissesNone, LacksNothing};
 ghost use Rattle.grunt.specs.Rounds.{IsReady, IsLook, HasGrown, HasEnded};
 
-use crate::light::light_cuts;
+use crate::missed::missed_cuts;
 use branchx::Path;
 use cutform::Cut;
 use nodelp::NodeLp;
@@ -99,7 +99,7 @@ fn grow(
     ensures same { IfOk result (λ more. more ≡ false → node.new ≡ node.old) }
     ensures full { IfOk result (λ more. more ≡ false → LacksNothing instance.now path.now.conditions node.old.program) }
 {
-    let cuts = missed_cuts(alloc, node.lp())?;
+    let cuts = newly_missed(alloc, node.lp())?;
     if cuts.is_empty() {
         return node.add_negative(alloc, instance, path);
     }
@@ -107,18 +107,18 @@ fn grow(
     Ok(true)
 }
 
-/// Cuts that the newest values miss by 2^10 units or more, if the newest answer is Solved: none only where they miss no
-/// subtour cut so far.
-fn missed_cuts(alloc: Global, lp: &Lp) -> Result<Vec<Cut>, AllocError>
+/// Cuts that the newest values miss by 2^10 units or more, if the newest answer is Solved: none only where they miss no cut
+/// of the separations.
+fn newly_missed(alloc: Global, lp: &Lp) -> Result<Vec<Cut>, AllocError>
     requires clean { IsClean lp.now }
     ensures cuts { IfOk result (λ cuts. All (IsCut lp.now.n) cuts.items) }
     ensures missed { IfOk result (λ cuts. All (IsMissed lp.now) cuts.items) }
     ensures few { IfOk result (λ cuts. length cuts.items ≤ 4096) }
     ensures solved { IfOk result (λ cuts. 1 ≤ length cuts.items → HasSolved lp.now.last) }
-    ensures none { IfOk result (λ cuts. length cuts.items ≡ 0 → MissesNoSet lp.now.last) }
+    ensures none { IfOk result (λ cuts. length cuts.items ≡ 0 → MissesNone lp.now.last) }
 {
     match lp.last() {
-        Some(LpAnswer::Solved { x, .. }) => light_cuts(alloc, x),
+        Some(LpAnswer::Solved { x, .. }) => missed_cuts(alloc, x),
         _ => Ok(Vec::new(alloc)),
     }
 }

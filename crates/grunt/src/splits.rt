@@ -1,8 +1,7 @@
 //! The end of the work on a node: a tour is offered, and the node is closed, or split with a reason.
-ghost use Rattle.std.specs.Prelude.{◌≡◌, ◌<◌, ◌<ℤ◌, ◌≤ℤ◌, true, false, None, IfOk};
+ghost use Rattle.std.specs.Prelude.{◌≡◌, ◌<◌, ◌<ℤ◌, ◌≤ℤ◌, true, false, IfOk};
 ghost use Rattle.tspdef.specs.Paths.{DecidesAll};
 ghost use Rattle.tspdef.specs.Bounds as bounds;
-ghost use Rattle.pricer.specs.declared.closing.Report as reports;
 ghost use Rattle.branchx.specs.Branch.{IsSplit};
 ghost use Rattle.treebook.specs.Tree.{branch_of};
 ghost use Rattle.nodelp.specs.Node.{IsClean};
@@ -14,16 +13,15 @@ ghost use Rattle.grunt.specs.Rounds.{IsLook, HasEnded};
 use crate::offers::shorter_tour;
 use crate::reasons::reason_of;
 use crate::rounds::Look;
-use crate::zeros::zeros_that_close;
 use branchx::{Branch, Path, choose};
-use cyc::{Frac, Tour};
+use cyc::Frac;
 use neigh::Neigh;
 use nodelp::NodeLp;
-use pricer::{Closing, Report, needed};
+use pricer::{Report, needed};
 use simplex::{Lp, LpAnswer};
 use std::alloc::{AllocError, Global};
 use tspinst::Instance;
-use worker::Work;
+use worker::{Work, zeros_that_close};
 
 /// Closes a node by its newest duals, where these suffice; else offers the tour to which the values lead, and closes the
 /// node for that one, or splits it.
@@ -47,14 +45,14 @@ pub(crate) fn settle(
     ensures explained { IfOk result (IsExplained instance.now path.now.conditions best) }
 {
     if suffices(&newest, best) {
-        return Ok(closed(None, newest.closing));
+        return Ok(Work::closed(None, newest.closing));
     }
     let (tour, shortest) = shorter_tour(alloc, instance, near, node.lp(), best, seed)?;
     if suffices(&newest, shortest) {
-        return Ok(closed(tour, newest.closing));
+        return Ok(Work::closed(tour, newest.closing));
     }
     match zeros_that_close(alloc, instance, path, shortest)? {
-        Some(zeros) => Ok(closed(tour, zeros)),
+        Some(zeros) => Ok(Work::closed(tour, zeros)),
         None => {
             let branch = branch_at(alloc, path, node.lp())?;
             Ok(Work {
@@ -72,19 +70,6 @@ fn suffices(look: &Look, length: u64) -> bool
     ensures not { result ≡ false → look.now.bound ≤ℤ bounds.needed length }
 {
     look.bound > needed(length)
-}
-
-/// A closing as work, without a reason.
-fn closed(tour: Option<Tour>, closing: Closing) -> Work
-    ensures tour { result.tour ≡ tour }
-    ensures report { result.report ≡ Report.Closed closing }
-    ensures why { result.why ≡ None }
-{
-    Work {
-        tour,
-        report: Report::Closed(closing),
-        why: None,
-    }
 }
 
 /// By what to split a node where a pair is undecided.

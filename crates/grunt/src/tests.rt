@@ -1,6 +1,7 @@
 //! Nodes that are closed, and one that is split, at their roots.
 use crate::LpWorker;
-use branchx::{Branch, Path};
+use branchx::Path;
+use cutform::Kind as CutKind;
 use distx::{Kind, Point};
 use neigh::nearest;
 use ports::{MemDesk, Room};
@@ -18,6 +19,11 @@ const GROUPS: &[u8] =
 /// Two triangles of sides 1 whose corners are joined two by two by sides of no length.
 const PRISM: &[u8] =
     b"TYPE : TSP\nDIMENSION : 6\nEDGE_WEIGHT_TYPE : EXPLICIT\nEDGE_WEIGHT_FORMAT : UPPER_ROW\nEDGE_WEIGHT_SECTION\n1 1 0 100 100\n1 100 0 100\n100 100 0\n1 1\n1\nEOF\n";
+
+/// The pairs of Petersen's graph have length 1, all others 2: no tour is shorter than 11, and values of two thirds on the 15 pairs
+/// of the graph miss no comb and have length 10.
+const PETERSEN: &[u8] =
+    b"TYPE : TSP\nDIMENSION : 10\nEDGE_WEIGHT_TYPE : EXPLICIT\nEDGE_WEIGHT_FORMAT : UPPER_ROW\nEDGE_WEIGHT_SECTION\n1 2 2 1 1 2 2 2 2\n1 2 2 2 1 2 2 2\n1 2 2 2 1 2 2\n1 2 2 2 1 2\n2 2 2 2 1\n2 1 1 2\n2 1 1\n2 1\n2\nEOF\n";
 
 /// A square of side 10, its corners in turn.
 fn square(alloc: Global) -> Result<Instance, Fail> {
@@ -82,11 +88,14 @@ fn is_checked(work: &Work) -> bool {
     }
 }
 
-/// Whether the work splits the root by a set.
-fn splits_by(work: &Work, set: &[u32]) -> bool {
+/// Whether the work closes the root by duals of which a comb has one.
+fn closes_by_a_comb(work: &Work) -> bool {
     match &work.report {
-        Report::Split(Branch::Clique(clique)) => clique.cities() == set,
-        _ => false,
+        Report::Closed(closing) => closing
+            .cuts()
+            .iter()
+            .any(|(cut, _)| cut.kind() == CutKind::Comb),
+        Report::Split(_) => false,
     }
 }
 
@@ -124,13 +133,34 @@ fn groups_are_closed_by_a_subtour_cut(rt: HostRuntime) -> Result<(), Fail> {
     Ok(())
 }
 
+/// The values of the least relaxation by subtour cuts have length 3.
 #[test]
-fn the_prism_is_split_with_a_reason_and_a_tour(rt: HostRuntime) -> Result<(), Fail> {
+fn the_prism_is_closed_by_a_comb(rt: HostRuntime) -> Result<(), Fail> {
+    let alloc = rt.alloc();
+    let instance = told(alloc, PRISM)?;
+    let work = root_work(&rt, alloc, &LpWorker, &instance, 4)?;
+    assert!(rt; closes_above(&rt, alloc, &instance, &work, 3 << 20));
+    assert!(rt; closes_by_a_comb(&work));
+    assert!(rt; work.tour.is_none());
+    Ok(())
+}
+
+#[test]
+fn a_tour_is_found_on_the_way(rt: HostRuntime) -> Result<(), Fail> {
     let alloc = rt.alloc();
     let instance = told(alloc, PRISM)?;
     let work = root_work(&rt, alloc, &LpWorker, &instance, 300)?;
-    assert!(rt; is_checked(&work));
-    assert!(rt; splits_by(&work, &[0, 1, 2]));
     assert_eq!(rt; found_length(&instance, &work), 4);
+    assert!(rt; closes_above(&rt, alloc, &instance, &work, 3 << 20));
+    Ok(())
+}
+
+#[test]
+fn petersens_graph_is_split_with_a_reason(rt: HostRuntime) -> Result<(), Fail> {
+    let alloc = rt.alloc();
+    let instance = told(alloc, PETERSEN)?;
+    let work = root_work(&rt, alloc, &LpWorker, &instance, 11)?;
+    assert!(rt; is_checked(&work));
+    assert!(rt; matches!(&work.report, Report::Split(_)));
     Ok(())
 }

@@ -1,7 +1,6 @@
 //! The worker with a linear program.
 ghost use Rattle.std.specs.Prelude.{◌≡◌, ◌^◌, ◌<◌, ◌≤◌, true, length, IfOk};
-ghost use Rattle.worker.specs.Splits.{IsNeededSplit};
-ghost use Rattle.grunt.specs.Splits.{needed_splits_stay};
+ghost use Rattle.worker.specs.Splits.{IsNeededSplit, needed_splits_stay};
 ghost use Rattle.worker.specs.Works.{IsWork, SplitsOnly, cliques};
 ghost use Rattle.grunt.specs.Whys.{IsExplained};
 
@@ -41,11 +40,12 @@ impl Worker for LpWorker {
 ///
 /// Zero duals close the node, or the ray where every pair is decided. Else there are up to 200 rounds: the program of the
 /// node's rows and of a core of near pairs is solved; its duals close the node if the bound that they give over all pairs
-/// suffices; if not, the subtour cuts that the values miss are added, or, where they miss none, undecided pairs of
-/// negative reduced cost. Where there is nothing to add, the tour to which the values lead is improved and offered; if
-/// the duals do not close the node for that tour either, the node is split, and the program is handed out with the reason.
+/// suffices; if not, the cuts that the values miss are added (subtour cuts of light sets, blossoms and combs), or, where they
+/// miss none, undecided pairs of negative reduced cost. Where there is nothing to add, the tour to which the values lead is
+/// improved and offered; if the duals do not close the node for that tour either, the node is split, and the program is
+/// handed out with the reason.
 ///
-/// A round costs a solve, O(n^2) for the bound and the prices, and flows over the values for the cuts.
+/// A round costs a solve, O(n^2) for the bound and the prices, and for the cuts flows and a few passes over the values.
 pub fn work_by_lp(
     alloc: Global,
     instance: &Instance,
@@ -64,22 +64,9 @@ pub fn work_by_lp(
     ensures explained { IfOk result (IsExplained instance.now path.now.conditions best) }
 {
     if let Some(work) = first_look(alloc, instance, path, best)? {
-        return Ok(unexplained(work));
+        return Ok(work);
     }
     let mut node = NodeLp::new(alloc, instance, near, path)?;
     let newest = rounds(alloc, instance, path, best, &mut node)?;
     settle(alloc, instance, near, path, best, seed, node, newest)
-}
-
-/// Work without a reason.
-fn unexplained(work: Work) -> Work
-    ensures tour { result.tour ≡ work.tour }
-    ensures report { result.report ≡ work.report }
-    ensures why { result.why ≡ None }
-{
-    Work {
-        tour: work.tour,
-        report: work.report,
-        why: None,
-    }
 }

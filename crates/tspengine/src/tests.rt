@@ -213,6 +213,40 @@ fn subtour_cuts_close_a_root(rt: HostRuntime) -> Result<(), Fail> {
     Ok(())
 }
 
+/// Two triangles of sides 1 whose corners are joined two by two by sides of no length: with subtour cuts alone the bound is 3.
+#[test]
+fn combs_close_a_root(rt: HostRuntime) -> Result<(), Fail> {
+    let alloc = rt.alloc();
+    let prism = solved(
+        alloc,
+        "tspc solve a b c --budget 1",
+        "TYPE : TSP\nDIMENSION : 6\nEDGE_WEIGHT_TYPE : EXPLICIT\nEDGE_WEIGHT_FORMAT : UPPER_ROW\nEDGE_WEIGHT_SECTION\n1 1 0 100 100 1 100 0 100 100 100 0 1 1 1\n",
+    )?;
+    assert_eq!(rt; prism.status, Status::Optimal);
+    assert!(rt; prism.text().starts_with(b"OPTIMAL 4\nTOUR "));
+    let has_comb = prism
+        .desk
+        .proof()
+        .windows(5)
+        .any(|line| line == b"\nC 3\n".as_slice());
+    assert!(rt; has_comb);
+    Ok(())
+}
+
+#[test]
+fn five_drawn_instances_are_solved(rt: HostRuntime) -> Result<(), Fail> {
+    let alloc = rt.alloc();
+    for seed in 1..6u32 {
+        let ended = solved(
+            alloc,
+            &format!(in alloc; "tspc bench {seed} 40 2000 p")?,
+            "",
+        )?;
+        assert_eq!(rt; ended.status, Status::Benched, "seed {seed}");
+    }
+    Ok(())
+}
+
 #[test]
 fn a_drawn_triangle_is_solved(rt: HostRuntime) -> Result<(), Fail> {
     let alloc = rt.alloc();

@@ -1,23 +1,21 @@
 //! The plain worker.
-ghost use Rattle.std.specs.Prelude.{◌≡◌, ℕ, ◌^◌, ◌<◌, ◌≤◌, ◌<ℤ◌, ◌≤ℤ◌, ◌↔◌, true, false, min, List, [], IfOk, IfSome, IsNone, IsTrue};
+ghost use Rattle.std.specs.Prelude.{◌≡◌, ℕ, ◌^◌, ◌<◌, ◌≤◌, ◌↔◌, min, List, [], None, IfOk, IfSome, IsNone, IsTrue};
 ghost use Rattle.tspdef.specs.Instances.{IsTourOf, length_in};
 ghost use Rattle.tspdef.specs.Paths.{DecidesAll};
 ghost use Rattle.tspdef.specs.Rays.{AreStepsOf};
-ghost use Rattle.tspdef.specs.Closings.{IsClosing};
-ghost use Rattle.tspdef.specs.Bounds as bounds;
 ghost use Rattle.branchx.specs.Branch.{IsSplit};
 ghost use Rattle.treebook.specs.Tree.{branch_of};
 ghost use Rattle.worker.specs.Splits.{IsOpenQuestion, IsNeededSplit, IsEdge, needed_splits_stay};
 ghost use Rattle.worker.specs.Works.{IsWork, SplitsOnly, IsSplitting, best_after};
 
-use crate::closings::zero_closing;
 use crate::work::Work;
 use crate::workers::Worker;
+use crate::zeros::zeros_that_close;
 use branchx::{Branch, Path, choose};
 use cyc::{Frac, FracError, Tour};
 use neigh::Neigh;
 use pathtour::{tour_of, used_pairs_are_one_tour};
-use pricer::{Closing, Report, bound, needed, ray};
+use pricer::{Report, ray};
 use std::alloc::{AllocError, Global};
 use tspinst::Instance;
 
@@ -96,40 +94,18 @@ pub fn first_look(
     requires short { best < 2 ^ 42 }
     ensures work { IfOk result (λ w. IfSome w (IsWork instance.now path.now.conditions best)) }
     ensures closed { IfOk result (λ w. IfSome w (λ it. ¬ IsSplitting it.report)) }
+    ensures why { IfOk result (λ w. IfSome w (λ it. it.why ≡ None)) }
     ensures none { IfOk result (λ w. IsNone w ↔ IsOpenQuestion instance.now best path.now.conditions) }
 {
-    let zeros = zero_closing(alloc, instance.n())?;
-    if closes(instance, path, &zeros, best) {
-        return Ok(Some(closed(None, zeros)));
+    if let Some(zeros) = zeros_that_close(alloc, instance, path, best)? {
+        return Ok(Some(Work::closed(None, zeros)));
     }
     if has_undecided(alloc, instance, path)? {
         return Ok(None);
     }
     let (tour, shortest) = used_tour(alloc, instance, path, best)?;
     let closing = ray(alloc, instance, path, shortest)?;
-    Ok(Some(closed(tour, closing)))
-}
-
-/// A closing as work, without a reason.
-fn closed(tour: Option<Tour>, closing: Closing) -> Work
-    ensures tour { result.tour ≡ tour }
-    ensures report { result.report ≡ Report.Closed closing }
-{
-    Work {
-        tour,
-        report: Report::Closed(closing),
-        why: None,
-    }
-}
-
-/// Whether a closing's bound exceeds what the best length needs.
-fn closes(instance: &Instance, path: &Path, closing: &Closing, best: u64) -> bool
-    requires cities { path.now.n ≡ instance.now.n }
-    requires closing { IsClosing instance.now.n path.now.conditions closing.now }
-    ensures more { result ≡ true → bounds.needed best <ℤ (bounds.bound instance.now path.now.conditions closing.now) }
-    ensures not { result ≡ false → bounds.bound instance.now path.now.conditions closing.now ≤ℤ bounds.needed best }
-{
-    bound(instance, path, closing) > needed(best)
+    Ok(Some(Work::closed(tour, closing)))
 }
 
 /// The lesser of two lengths.

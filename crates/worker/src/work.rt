@@ -1,7 +1,9 @@
 //! What work on a node gives.
+ghost use Rattle.std.specs.Prelude.{◌≡◌, None};
+ghost use Rattle.pricer.specs.declared.closing.Report as reports;
 
 use cyc::Tour;
-use pricer::Report;
+use pricer::{Closing, Report};
 use simplex::Lp;
 
 /// Why a worker with a linear program splits; each carries the program as it stood at its last solve.
@@ -21,4 +23,19 @@ pub struct Work {
     pub tour: Option<Tour>,
     pub report: Report,
     pub why: Option<Why>,
+}
+
+impl Work {
+    /// A closing as work, without a reason.
+    pub fn closed(tour: Option<Tour>, closing: Closing) -> Work
+        ensures tour { result.tour ≡ tour }
+        ensures report { result.report ≡ reports.Report.Closed closing }
+        ensures why { result.why ≡ None }
+    {
+        Work {
+            tour,
+            report: Report::Closed(closing),
+            why: None,
+        }
+    }
 }

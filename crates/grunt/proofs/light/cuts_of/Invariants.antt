@@ -1,13 +1,13 @@
 use Rattle.std.proofs.Common.{◌≡◌, ◌+◌, length, vec_len}
 use Rattle.std.specs.List.{All}
 use Rattle.sepsub.specs.LeastSets.{IsViolated}
-use Rattle.grunt.specs.Light.{IsViolatedCut}
+use Rattle.sepblos.specs.Violated.{IsWorth}
 use Rattle.grunt.proofs.light.cuts_of.Given as goal
 
 abbrev pub invariant-loop-set : goal.invariant-loop-set
 invariant-loop-set l = record {
   rest : All (IsViolated l.x) l.rest.items;
-  cuts : All (IsViolatedCut l.x) l.cuts.items;
+  cuts : All (IsWorth l.x) l.cuts.items;
   many : length l.cuts.items + length l.rest.items ≡ length l.fn.sets.items;
 }
 

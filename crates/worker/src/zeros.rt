@@ -1,4 +1,4 @@
-//! Zero duals.
+//! Closings without duals.
 ghost use Rattle.std.specs.Prelude.{◌≡◌, true, false, ◌≤ℤ◌, IfOk, IfSome, IfNone};
 ghost use Rattle.tspdef.specs.Closings.{Fits};
 ghost use Rattle.tspdef.specs.Bounds as bounds;
@@ -11,8 +11,8 @@ use std::alloc::{AllocError, Global};
 use tspdef::bound_is_below;
 use tspinst::Instance;
 
-/// Zero duals, if they close a node for tours of a length.
-pub(crate) fn zeros_that_close(
+/// The closing whose duals are all 0, if it closes a node for tours of a length. O(n^2), for the bound.
+pub fn zeros_that_close(
     alloc: Global,
     instance: &Instance,
     path: &Path,
