@@ -1,5 +1,5 @@
 -- Below six cities no set to split by has three cities with three others.
-use Rattle.std.proofs.Common.{ℕ, ◌+◌, ◌<◌, ◌≤◌, List, [], ◌∷◌, inl, inr, arith}
+use Rattle.std.proofs.Common.{◌<◌, ◌≤◌, List, [], ◌∷◌, inl, inr, arith}
 use Rattle.tspdef.specs.Paths.{Condition}
 use Rattle.cyc.specs.CitySet.{Members}
 use Rattle.cyc.specs.Frac.{Values}

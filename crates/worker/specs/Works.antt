@@ -8,7 +8,7 @@ use Rattle.branchx.specs.Branch.{IsSplit}
 use Rattle.treebook.specs.Tree.{branch_of}
 use Rattle.pricer.specs.declared.closing.Report.{Report}
 use Rattle.pricer.specs.declared.closing.Report.TheVariants.{Closed, Split}
-use Rattle.worker.specs.Splits.{Splits, IsOpenQuestion}
+use Rattle.worker.specs.Splits.{Splits}
 use Rattle.worker.specs.declared.work.Work.{Work}
 
 -- how many conditions on sets a path has

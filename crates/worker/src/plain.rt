@@ -1,5 +1,5 @@
 //! The plain worker.
-ghost use Rattle.std.specs.Prelude.{◌≡◌, ℕ, ◌^◌, ◌<◌, ◌≤◌, ◌↔◌, min, List, [], None, IfOk, IfSome, IsNone, IsTrue};
+ghost use Rattle.std.specs.Prelude.{◌≡◌, ℕ, ◌^◌, ◌<◌, ◌≤◌, ◌↔◌, true, min, List, [], None, IfOk, IfSome, IsNone, IsTrue};
 ghost use Rattle.tspdef.specs.Instances.{IsTourOf, length_in};
 ghost use Rattle.tspdef.specs.Paths.{DecidesAll};
 ghost use Rattle.tspdef.specs.Rays.{AreStepsOf};

@@ -20,6 +20,7 @@ pub fn zeros_that_close(
 ) -> Result<Option<Closing>, AllocError>
     requires { path.now.n ≡ instance.now.n }
     ensures some { IfOk result (λ z. IfSome z (Closes instance.now path.now.conditions length)) }
+    ensures zeros { IfOk result (λ z. IfSome z (λ c. c ≡ rays.zero_closing instance.now.n)) }
     ensures none { IfOk result (λ z. IfNone z (bounds.bound instance.now path.now.conditions (rays.zero_closing instance.now.n) ≤ℤ bounds.needed length)) }
 {
     let zeros = zero_closing(alloc, instance.n())?;

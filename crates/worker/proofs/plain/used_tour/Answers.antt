@@ -1,4 +1,4 @@
-use Rattle.std.proofs.Common.{ℕ, ◌≤◌, subst, arith}
+use Rattle.std.proofs.Common.{ℕ, subst, arith}
 use Rattle.std.specs.Prelude.{IfSome}
 use Rattle.tspdef.specs.Tours.{IsTour}
 use Rattle.tspdef.specs.Rays.{AreStepsOf}
