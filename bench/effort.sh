@@ -13,7 +13,7 @@ budget=${3:-65536}
 workspace effort 'ports tspdef distx cyc tspinst neigh linkern cutform branchx pricer lpcheck simplex treebook pathtour opening nodelp worker grunt treesearch anyhow'
 # the pieces of the worker, seen from outside
 grunt=$work/crates/grunt
-sed -i 's/^pub use work::/pub use rounds::{Look, rounds};\npub use splits::settle;\npub use work::/' "$grunt/src/lib.rt"
+sed -i 's/^mod rounds;/pub mod rounds;/; s/^mod splits;/pub mod splits;/' "$grunt/src/lib.rt"
 sed -i 's/^pub(crate) fn rounds/pub fn rounds/; s/^pub(crate) struct Look/pub struct Look/; s/^    pub(crate) /    pub /' "$grunt/src/rounds.rt"
 sed -i 's/^pub(crate) fn settle/pub fn settle/' "$grunt/src/splits.rt"
 mkdir -p "$work/crates/effort/proofs/counted_work"
@@ -30,7 +30,8 @@ ghost use Rattle.worker.specs.Works.{IsWork, SplitsOnly, cliques};
 use anyhow::{Result, anyhow, bail};
 use branchx::Path;
 use cutform::{Cut, Kind};
-use grunt::{rounds, settle};
+use grunt::rounds::rounds;
+use grunt::splits::settle;
 use neigh::Neigh;
 use nodelp::NodeLp;
 use opening::find_opening;
@@ -55,6 +56,7 @@ struct Counts {
 }
 
 /// The worker with linear programs, which counts.
+#[derive(Drop)]
 struct Counting {
     counts: Cell<Counts>,
 }

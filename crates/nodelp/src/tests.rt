@@ -1,4 +1,7 @@
-//! The square's relaxation, and what a path does to the core.
+//! The square's relaxation, over all pairs and over its sides alone.
+ghost use Rattle.std.specs.Prelude.{IfOk};
+ghost use Rattle.nodelp.specs.Node.{IsNodeLp};
+
 use crate::NodeLp;
 use branchx::{Cond, Path, decided};
 use distx::{Kind, Point};
@@ -28,7 +31,9 @@ fn relaxed(
     instance: &Instance,
     path: &Path,
     k: u32,
-) -> Result<NodeLp, Fail> {
+) -> Result<NodeLp, Fail>
+    ensures { IfOk result (IsNodeLp instance.now path.now.conditions) }
+{
     assert_eq!(rt; instance.n(), 4);
     assert_eq!(rt; path.n(), 4);
     assert!(rt; path.conditions().is_empty());
@@ -65,7 +70,6 @@ fn a_pair_outside_the_core_comes_in(rt: HostRuntime) -> Result<(), Fail> {
     let path = Path::new(alloc, 4);
     let mut node = relaxed(&rt, alloc, &instance, &path, 2)?;
     assert_eq!(rt; node.lp().cols().len(), 4);
-    assert!(rt; !node.lp().has_col(0, 2) && !node.lp().has_col(1, 3));
     node.solve(alloc)?;
     assert_eq!(rt; node.n(), path.n());
     let closing = node.closing(alloc, &path)?;
