@@ -1,28 +1,31 @@
 #!/usr/bin/env bash
 # Times the least set: on values of three pairs a city that look drawn, beside plain flows from city 0 to each other city;
-# and in rounds on degree programs of drawn points, whose light sets become rows until there are none. Outside the gate.
-# Prints two tables; figures go into docs/PERFORMANCE.md.
+# and in rounds on degree programs of drawn points, whose light sets become rows until there are none, with blossoms and combs sought
+# on the values of each round. Outside the gate. Prints two tables; figures go into docs/PERFORMANCE.md.
 #
 #   bench/flow.sh
 #   RUN='taskset -c 3' bench/flow.sh    on one core
 set -eu
 top=$(cd "$(dirname "$0")/.." && pwd)
 . "$top/bench/workspace.sh"
-workspace flowbench 'cyc simplex maxflow sepsub anyhow'
+workspace flowbench 'cyc simplex maxflow sepsub sepblos sepcomb anyhow'
 cat >"$work/crates/flowbench/src/main.rt" <<'RT'
-//! flowbench drawn N: the least weight, in microseconds the least set alone, the sets of a sweep, and in microseconds the sweep
+//! flowbench drawn N: the least weight, in microseconds of the processor the least set alone, the sets of a sweep, and in microseconds of the processor the sweep
 //! and, up to 1000, the plain flows, whose least is the same.
-//! flowbench rounds N: rounds, sets, the longest sweep, all sweeps and all solves in microseconds, and the last least weight.
+//! flowbench rounds N: rounds, sets, the longest sweep, all sweeps, the longest search for blossoms, that for combs and all solves
+//! in microseconds of the processor, and how many blossoms and combs the last values have.
 #![tactic(auto)]
 
 use anyhow::{Result, bail};
 use cyc::{CitySet, Entry, Frac};
 use maxflow::flow;
+use sepblos::blossoms;
+use sepcomb::combs;
 use sepsub::{least_set, sweep};
 use simplex::{Lp, LpAnswer, Row, Sense};
 use std::alloc::Global;
 use std::env;
-use std::time::Instant;
+use std::time::CpuClock;
 
 /// The next of some numbers that look drawn.
 fn next(state: u64) -> u64 {
@@ -52,13 +55,13 @@ fn drawn(alloc: Global, n: u32) -> Result<Frac> {
 fn run_drawn(rt: HostRuntime, n: u32) -> Result<()> {
     let alloc = rt.alloc();
     let x = drawn(alloc, n)?;
-    let from = Instant::now(&rt)?;
+    let from = rt.thread_cpu_time()?;
     let least = least_set(alloc, &x)?;
-    let alone = from.elapsed(&rt)?.as_micros();
-    let from = Instant::now(&rt)?;
+    let alone = rt.thread_cpu_time()?.saturating_sub(from).as_micros();
+    let from = rt.thread_cpu_time()?;
     let swept = sweep(alloc, &x)?;
-    let sweeping = from.elapsed(&rt)?.as_micros();
-    let from = Instant::now(&rt)?;
+    let sweeping = rt.thread_cpu_time()?.saturating_sub(from).as_micros();
+    let from = rt.thread_cpu_time()?;
     let mut plain = u64::MAX;
     if n <= 1000 {
         for t in 1..x.n() {
@@ -68,7 +71,7 @@ fn run_drawn(rt: HostRuntime, n: u32) -> Result<()> {
             bail!("the two differ");
         }
     }
-    let plainly = from.elapsed(&rt)?.as_micros();
+    let plainly = rt.thread_cpu_time()?.saturating_sub(from).as_micros();
     println!(rt; "{n} {} {alone} {} {sweeping} {plainly}", swept.least.weight, swept.sets.len())?;
     Ok(())
 }
@@ -134,21 +137,28 @@ fn run_rounds(rt: HostRuntime, n: u32) -> Result<()> {
     let mut longest: u128 = 0;
     let mut sweeping: u128 = 0;
     let mut solving: u128 = 0;
-    let mut weight = 0;
+    let mut blooming: u128 = 0;
+    let mut combing: u128 = 0;
+    let mut last = (0, 0);
     for _ in 0..200u32 {
         rounds = rounds.wrapping_add(1);
-        let from = Instant::now(&rt)?;
+        let from = rt.thread_cpu_time()?;
         lp.solve(alloc, 100_000)?;
-        solving = solving.wrapping_add(from.elapsed(&rt)?.as_micros());
+        solving = solving.wrapping_add(rt.thread_cpu_time()?.saturating_sub(from).as_micros());
         let Some(LpAnswer::Solved { x, .. } | LpAnswer::Rough { x, .. }) = lp.last() else {
             bail!("no values");
         };
-        let from = Instant::now(&rt)?;
+        let from = rt.thread_cpu_time()?;
         let swept = sweep(alloc, x)?;
-        let micros = from.elapsed(&rt)?.as_micros();
+        let micros = rt.thread_cpu_time()?.saturating_sub(from).as_micros();
         longest = longest.max(micros);
         sweeping = sweeping.wrapping_add(micros);
-        weight = swept.least.weight;
+        let from = rt.thread_cpu_time()?;
+        last.0 = blossoms(alloc, x)?.len();
+        blooming = blooming.max(rt.thread_cpu_time()?.saturating_sub(from).as_micros());
+        let from = rt.thread_cpu_time()?;
+        last.1 = combs(alloc, x)?.len();
+        combing = combing.max(rt.thread_cpu_time()?.saturating_sub(from).as_micros());
         found = found.wrapping_add(swept.sets.len());
         if swept.sets.is_empty() {
             break;
@@ -157,7 +167,10 @@ fn run_rounds(rt: HostRuntime, n: u32) -> Result<()> {
             put_set(alloc, &mut lp, Sense::AtLeast, set)?;
         }
     }
-    println!(rt; "{n} {rounds} {found} {longest} {sweeping} {solving} {weight}")?;
+    println!(rt;
+        "{n} {rounds} {found} {longest} {sweeping} {blooming} {combing} {solving} {} {}",
+        last.0, last.1
+    )?;
     Ok(())
 }
 
@@ -181,6 +194,6 @@ program=$work/crates/flowbench/out/flowbench
 columns='%6s %12s %12s %6s %12s %12s\n'
 printf "$columns" n least 'alone (us)' sets 'sweep (us)' 'plain (us)'
 for n in 200 500 1000 2000; do printf "$columns" $(${RUN:-} "$program" drawn $n); done
-columns='%6s %7s %6s %13s %13s %13s %10s\n'
-printf "\n$columns" n rounds sets 'longest (us)' 'sweeps (us)' 'solves (us)' least
+columns='%6s %7s %6s %13s %13s %13s %13s %13s %8s %6s\n'
+printf "\n$columns" n rounds sets 'longest (us)' 'sweeps (us)' 'blossoms (us)' 'combs (us)' 'solves (us)' blossoms combs
 for n in 100 200 500 1000; do printf "$columns" $(${RUN:-} "$program" rounds $n); done

@@ -1,5 +1,5 @@
 -- The comb of a handle, or none, and lists of combs that grow.
-use Rattle.std.proofs.Common.{◌≡◌, ℕ, ◌≤◌, List, [], ◌∷◌, ◌++◌, length, Option, Some, None, refl, sym, ap, subst, ◌∙◌}
+use Rattle.std.proofs.Common.{◌≡◌, ℕ, ◌<◌, ◌≤◌, List, [], ◌∷◌, ◌++◌, length, Option, Some, None, refl, sym, ap, subst, ◌∙◌, arith}
 use Rattle.std.specs.Prelude.{MatchOption}
 use Rattle.tspdef.specs.Cuts.{Cut}
 use Rattle.cyc.specs.CitySet.{Members}
@@ -9,6 +9,7 @@ use Rattle.sepblos.specs.Violated.{IsViolatedComb}
 use Rattle.sepcomb.specs.Pairs.{pairs_of}
 use Rattle.sepcomb.specs.Growth.{ends_of, grown}
 use Rattle.sepcomb.specs.Combs.{IsCombOf}
+use Rattle.sepcomb.proofs.PathLemmas.{teeth_many}
 
 teeth_same : (x : Values) (h : List ℕ) (ps qs : List Entry) (ts : List (List ℕ)) → qs ≡ pairs_of x.entries h → ps ≡ qs → ts ≡ grown x h (ends_of ps) ps
     → ts ≡ grown x h (ends_of (pairs_of x.entries h)) (pairs_of x.entries h)
@@ -22,6 +23,14 @@ comb_or_none x h ps qs ts (Some c) are same is large v = record {
   size = large;
   comb = subst (λ ss. IsViolatedComb x h.cities ss c) (teeth_same x h.cities ps qs ts are same is) v;
 }
+
+-- fewer than three pairs make none
+pub few_make_none : (x : Values) (h : Members) (ps : List Entry) (c : Cut) → ps ≡ pairs_of x.entries h.cities → length ps < 3 → IsCombOf x h c → ⊥
+few_make_none x h ps c are few is =
+    let many = is.comb.whole.many in
+    let same = teeth_many x h.cities (ends_of (pairs_of x.entries h.cities)) (pairs_of x.entries h.cities) in
+    let size = ap (λ (es : List Entry). length es) are in
+    omega arith
 
 pub append_more : (cuts others more : List Cut) (c : Cut) → cuts ≡ others ++ more → cuts ++ c ∷ [] ≡ others ++ (more ++ c ∷ [])
 append_more cuts others more c e = ap (λ ds. ds ++ c ∷ []) e ∙ assoc others more (c ∷ [])

@@ -1,8 +1,11 @@
 -- Sets below a number, and paths step by step.
-use Rattle.std.proofs.Common.{◌≡◌, ℕ, zero, suc, ◌+◌, ◌-◌, ◌<◌, ◌≤◌, Bool, true, false, cond, List, [], ◌∷◌, ◌++◌, Some, None, ap, subst, ◌∙◌, arith}
+use Rattle.std.proofs.Common.{◌≡◌, ℕ, zero, suc, ◌+◌, ◌-◌, ◌<◌, ◌≤◌, Bool, true, false, cond, ◌==◌, ◌&&◌, ◌||◌, List, [], ◌∷◌, ◌++◌, length, Option, Some, None, refl, sym, ap, subst, ◌∙◌, ⊎_elim, arith}
+use Rattle.std.proofs.lemmas.Bool.{cases_Bool}
 use Rattle.tspdef.specs.Sets.{has, RisesFrom, IsSet}
 use Rattle.cyc.specs.declared.frac.Entry.{Entry}
-use Rattle.sepcomb.specs.Growth.{next_city, city_or_zero, is_next, path_from, set_below}
+use Rattle.cyc.specs.Frac.{Values}
+use Rattle.sepblos.specs.Blossoms.{is_near_one}
+use Rattle.sepcomb.specs.Growth.{other_end, is_free, leads_on, lower, near_ones, next_city, city_or_zero, is_next, path_from, set_below, grown, outside}
 
 -- ---- sets
 
@@ -25,6 +28,28 @@ set_below_is_set (suc n) cities =
     subst (λ m. RisesFrom m 0 (set_below n cities ++ cond (has cities n) (n ∷ []) [])) e (rises_by n (set_below n cities) (has cities n) (set_below_is_set n cities))
 
 -- ---- paths
+
+-- pairs that are not near one length lead nowhere
+pub next_near : (h used path : List ℕ) (newest : ℕ) (best : Option ℕ) (es : List Entry)
+    → next_city h used path newest best (near_ones es) ≡ next_city h used path newest best es
+next_near h used path newest best [] = refl
+next_near h used path newest best (e ∷ es) = ⊎_elim
+    (λ (t : is_near_one e.x ≡ true).
+    ap (λ b. next_city h used path newest best (cond b (e ∷ near_ones es) (near_ones es))) t
+    ∙ next_near h used path newest (cond (leads_on h used path newest e) (Some (lower best (other_end newest e))) best) es)
+    (λ (f : is_near_one e.x ≡ false).
+    ap (λ b. next_city h used path newest best (cond b (e ∷ near_ones es) (near_ones es))) f
+    ∙ (next_near h used path newest best es
+    ∙ sym (ap (λ b. next_city h used path newest (cond b (Some (lower best (other_end newest e))) best) es) (leads_nowhere h used path newest e f))))
+    (cases_Bool (is_near_one e.x))
+  where
+    leads_nowhere : (h used path : List ℕ) (newest : ℕ) (e : Entry) → is_near_one e.x ≡ false → leads_on h used path newest e ≡ false
+    leads_nowhere h used path newest e f = ap (λ b. b && ((e.u == newest) || (e.v == newest)) && is_free h used path (other_end newest e)) f
+
+-- as many teeth as pairs
+pub teeth_many : (x : Values) (h used : List ℕ) (ps : List Entry) → length (grown x h used ps) ≡ length ps
+teeth_many x h used [] = refl
+teeth_many x h used (e ∷ es) = ap suc (teeth_many x h (used ++ path_from x.n x.entries h used [] (outside h e)) es)
 
 -- a step of a path that is not over
 pub path_more : (n step : ℕ) (es : List Entry) (h used path : List ℕ) (newest city : ℕ) → step < n → next_city h used path newest None es ≡ Some city

@@ -21,6 +21,11 @@ is_free handle used path city = not (has handle city) && not (has used city) && 
 abbrev pub leads_on : List ℕ → List ℕ → List ℕ → ℕ → Entry → Bool
 leads_on handle used path newest e = is_near_one e.x && ((e.u == newest) || (e.v == newest)) && is_free handle used path (other_end newest e)
 
+-- the entries of pairs near one length
+abbrev pub near_ones : List Entry → List Entry
+near_ones [] = []
+near_ones (e ∷ es) = cond (is_near_one e.x) (e ∷ near_ones es) (near_ones es)
+
 -- the lower of two cities, of which there may be one alone
 abbrev pub lower : Option ℕ → ℕ → ℕ
 lower None city = city

@@ -1,27 +1,42 @@
 //! Teeth that grow along chains of pairs near one length.
 ghost use Rattle.std.specs.Prelude.{◌≡◌, ℕ, Option, None, [], IfOk};
 ghost use Rattle.cutform.specs.Cut.{cities_of_each};
-ghost use Rattle.sepcomb.specs.Growth.{other_end, is_free, leads_on, lower, next_city, path_from, outside, ends_of, grown};
+ghost use Rattle.sepcomb.specs.Growth.{other_end, is_free, leads_on, lower, near_ones, next_city, path_from, outside, ends_of, grown};
 
 use crate::tooth::{is_in, tooth_of};
 use cyc::{CitySet, Entry, Frac};
 use sepblos::NEAR_ONE;
 use std::alloc::{AllocError, Global};
 
-/// The teeth of a handle that begin with these pairs: each in turn grows as far as it can.
+/// The pairs near one length, in the order of the entries: those along which teeth grow.
+pub fn near_ones(alloc: Global, x: &Frac) -> Result<Vec<Entry>, AllocError>
+    ensures { IfOk result (λ near. near.items ≡ near_ones x.now.entries) }
+{
+    let mut near = Vec::new(alloc);
+    for entry in x.entries() {
+        if entry.x >= NEAR_ONE {
+            near.push(*entry)?;
+        }
+    }
+    Ok(near)
+}
+
+/// The teeth of a handle that begin with these pairs: each in turn grows as far as it can, along the pairs near one length.
 pub fn grown(
     alloc: Global,
     x: &Frac,
+    near: &[Entry],
     handle: &CitySet,
     pairs: &[Entry],
 ) -> Result<Vec<CitySet>, AllocError>
+    requires near { near.now ≡ near_ones x.now.entries }
     ensures { IfOk result (λ teeth. cities_of_each teeth.items ≡ grown x.now handle.now.cities (ends_of pairs.now) pairs.now) }
 {
     let n = x.n();
     let mut used = ends_of(alloc, pairs)?;
     let mut teeth = Vec::new(alloc);
     for pair in pairs {
-        let path = path_out(alloc, x, handle, &used, outside(handle, *pair))?;
+        let path = path_out(alloc, x, near, handle, &used, outside(handle, *pair))?;
         teeth.push(tooth_of(alloc, n, *pair, &path)?)?;
         used.extend_from_slice(&path)?;
     }
@@ -55,16 +70,18 @@ fn outside(handle: &CitySet, pair: Entry) -> u32
 fn path_out(
     alloc: Global,
     x: &Frac,
+    near: &[Entry],
     handle: &CitySet,
     used: &[u32],
     from: u32,
 ) -> Result<Vec<u32>, AllocError>
+    requires near { near.now ≡ near_ones x.now.entries }
     ensures { IfOk result (λ path. path.items ≡ path_from x.now.n x.now.entries handle.now.cities used.now [] from) }
 {
     let mut path = Vec::new(alloc);
     let mut newest = from;
     for step in 0..x.n() {
-        let Some(city) = next_city(x, handle, used, &path, newest) else {
+        let Some(city) = next_city(x, near, handle, used, &path, newest) else {
             return Ok(path);
         };
         path.push(city)?;
@@ -74,11 +91,19 @@ fn path_out(
 }
 
 /// The lowest city to which a pair near one length leads on, if there is one.
-fn next_city(x: &Frac, handle: &CitySet, used: &[u32], path: &[u32], newest: u32) -> Option<u32>
-    ensures { result ≡ next_city handle.now.cities used.now path.now newest None x.now.entries }
+fn next_city(
+    _x: &Frac,
+    near: &[Entry],
+    handle: &CitySet,
+    used: &[u32],
+    path: &[u32],
+    newest: u32,
+) -> Option<u32>
+    requires near { near.now ≡ near_ones _x.now.entries }
+    ensures { result ≡ next_city handle.now.cities used.now path.now newest None _x.now.entries }
 {
     let mut best = None;
-    for entry in x.entries() {
+    for entry in near {
         if leads_on(handle, used, path, newest, *entry) {
             best = Some(lower(best, other_end(newest, *entry)));
         }

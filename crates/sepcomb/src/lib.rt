@@ -9,13 +9,14 @@ ghost use Rattle.std.specs.List.{All};
 ghost use Rattle.tspdef.specs.Cuts.{Cut as AnyCut};
 ghost use Rattle.sepblos.specs.Violated.{IsWorth};
 ghost use Rattle.sepcomb.specs.Combs.{IsCombOf, AreCombsAbove, AreCombs};
+ghost use Rattle.sepcomb.specs.Growth.{near_ones};
 
 mod growth;
 mod order;
 mod tooth;
 
 use cutform::Cut;
-use cyc::{CitySet, Frac};
+use cyc::{CitySet, Entry, Frac};
 use fracgraph::components;
 use sepblos::{NEAR_ONE, violated_comb};
 use std::alloc::{AllocError, Global};
@@ -29,16 +30,18 @@ use std::alloc::{AllocError, Global};
 /// grows outside the handle, from its newest city to the lowest city that a pair near one length joins to it and that no
 /// tooth has, as long as there is one. The teeth of a comb are in the order in which they were taken.
 ///
-/// Each city that a tooth grows by takes a pass over the entries, and the test of a comb one for each of its sets:
-/// O(entries * s) for a comb whose sets have s cities, beside what the components take.
+/// Each city that a tooth grows by takes a pass over the pairs near one length, and the test of a comb one over the entries for
+/// each of its sets: O(entries * s) for a comb whose sets have s cities, beside what the components take. Handles of fewer than
+/// three teeth take two passes.
 pub fn combs(alloc: Global, x: &Frac) -> Result<Vec<Cut>, AllocError>
     ensures combs { IfOk result (λ cuts. AreCombs x.now cuts.items) }
     ensures worth { IfOk result (λ cuts. All (IsWorth x.now) cuts.items) }
 {
+    let near = growth::near_ones(alloc, x)?;
     let none = Vec::new(alloc);
-    let low = combs_above(alloc, x, 0x4_0000, none)?;
-    let half = combs_above(alloc, x, 0x8_0000, low)?;
-    let high = combs_above(alloc, x, 0xc_0000, half)?;
+    let low = combs_above(alloc, x, &near, 0x4_0000, none)?;
+    let half = combs_above(alloc, x, &near, 0x8_0000, low)?;
+    let high = combs_above(alloc, x, &near, 0xc_0000, half)?;
     Ok(high)
 }
 
@@ -46,17 +49,19 @@ pub fn combs(alloc: Global, x: &Frac) -> Result<Vec<Cut>, AllocError>
 fn combs_above(
     alloc: Global,
     x: &Frac,
+    near: &[Entry],
     limit: u32,
     others: Vec<Cut>,
 ) -> Result<Vec<Cut>, AllocError>
-    requires { All (IsWorth x.now) others.items }
+    requires near { near.now ≡ near_ones x.now.entries }
+    requires worth { All (IsWorth x.now) others.items }
     ensures combs { IfOk result (λ cuts. AreCombsAbove limit x.now others.items cuts.items) }
     ensures worth { IfOk result (λ cuts. All (IsWorth x.now) cuts.items) }
 {
     let sets = components(alloc, x, limit, NEAR_ONE)?;
     let mut cuts = others;
     for set in &sets {
-        if let Some(cut) = comb_of(alloc, x, set)? {
+        if let Some(cut) = comb_of(alloc, x, near, set)? {
             cuts.push(cut)?;
         }
     }
@@ -64,8 +69,14 @@ fn combs_above(
 }
 
 /// The comb of a handle, where it has one that is violated.
-fn comb_of(alloc: Global, x: &Frac, handle: &CitySet) -> Result<Option<Cut>, AllocError>
-    requires { handle.now.n ≡ x.now.n }
+fn comb_of(
+    alloc: Global,
+    x: &Frac,
+    near: &[Entry],
+    handle: &CitySet,
+) -> Result<Option<Cut>, AllocError>
+    requires cities { handle.now.n ≡ x.now.n }
+    requires near { near.now ≡ near_ones x.now.entries }
     ensures comb { IfOk result (λ c. MatchOption c ((cut : AnyCut) → ¬ IsCombOf x.now handle.now cut) (IsCombOf x.now handle.now)) }
     ensures worth { IfOk result (λ c. IfSome c (IsWorth x.now)) }
 {
@@ -73,7 +84,10 @@ fn comb_of(alloc: Global, x: &Frac, handle: &CitySet) -> Result<Option<Cut>, All
         return Ok(None);
     }
     let pairs = order::pairs_of(alloc, x, handle)?;
-    let teeth = growth::grown(alloc, x, handle, &pairs)?;
+    if pairs.len() < 3 {
+        return Ok(None);
+    }
+    let teeth = growth::grown(alloc, x, near, handle, &pairs)?;
     let cut = violated_comb(alloc, x, handle, teeth)?;
     Ok(cut)
 }

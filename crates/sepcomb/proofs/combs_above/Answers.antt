@@ -13,7 +13,7 @@ use Rattle.sepcomb.proofs.combs_above.Goals.{in-Some+in_ok-push, in_default}
 pub loop-set-init : goal.loop-set-init
 loop-set-init c = record {
   made = ([], (sym (append-nil c.args.others.items), λ rest made. made));
-  worth = c.requires;
+  worth = c.requires.worth;
 }
 
 pub loop-set-preserved : goal.loop-set-preserved
