@@ -12,8 +12,8 @@ workspace flowbench 'cyc simplex maxflow sepsub sepblos sepcomb anyhow'
 cat >"$work/crates/flowbench/src/main.rt" <<'RT'
 //! flowbench drawn N: the least weight, in microseconds of the processor the least set alone, the sets of a sweep, and in microseconds of the processor the sweep
 //! and, up to 1000, the plain flows, whose least is the same.
-//! flowbench rounds N: rounds, sets, the longest sweep, all sweeps, the longest search for blossoms, that for combs and all solves
-//! in microseconds of the processor, and how many blossoms and combs the last values have.
+//! flowbench rounds N: rounds, sets, the longest sweep, all sweeps, the longest search for blossoms and all of them, the same of
+//! combs, and all solves in microseconds of the processor, and how many blossoms and combs the last values have.
 #![tactic(auto)]
 
 use anyhow::{Result, bail};
@@ -139,6 +139,7 @@ fn run_rounds(rt: HostRuntime, n: u32) -> Result<()> {
     let mut solving: u128 = 0;
     let mut blooming: u128 = 0;
     let mut combing: u128 = 0;
+    let mut longest_of: (u128, u128) = (0, 0);
     let mut last = (0, 0);
     for _ in 0..200u32 {
         rounds = rounds.wrapping_add(1);
@@ -155,10 +156,14 @@ fn run_rounds(rt: HostRuntime, n: u32) -> Result<()> {
         sweeping = sweeping.wrapping_add(micros);
         let from = rt.thread_cpu_time()?;
         last.0 = blossoms(alloc, x)?.len();
-        blooming = blooming.max(rt.thread_cpu_time()?.saturating_sub(from).as_micros());
+        let micros = rt.thread_cpu_time()?.saturating_sub(from).as_micros();
+        longest_of.0 = longest_of.0.max(micros);
+        blooming = blooming.wrapping_add(micros);
         let from = rt.thread_cpu_time()?;
         last.1 = combs(alloc, x)?.len();
-        combing = combing.max(rt.thread_cpu_time()?.saturating_sub(from).as_micros());
+        let micros = rt.thread_cpu_time()?.saturating_sub(from).as_micros();
+        longest_of.1 = longest_of.1.max(micros);
+        combing = combing.wrapping_add(micros);
         found = found.wrapping_add(swept.sets.len());
         if swept.sets.is_empty() {
             break;
@@ -168,8 +173,8 @@ fn run_rounds(rt: HostRuntime, n: u32) -> Result<()> {
         }
     }
     println!(rt;
-        "{n} {rounds} {found} {longest} {sweeping} {blooming} {combing} {solving} {} {}",
-        last.0, last.1
+        "{n} {rounds} {found} {longest} {sweeping} {} {blooming} {} {combing} {solving} {} {}",
+        longest_of.0, longest_of.1, last.0, last.1
     )?;
     Ok(())
 }
@@ -194,6 +199,6 @@ program=$work/crates/flowbench/out/flowbench
 columns='%6s %12s %12s %6s %12s %12s\n'
 printf "$columns" n least 'alone (us)' sets 'sweep (us)' 'plain (us)'
 for n in 200 500 1000 2000; do printf "$columns" $(${RUN:-} "$program" drawn $n); done
-columns='%6s %7s %6s %13s %13s %13s %13s %13s %8s %6s\n'
-printf "\n$columns" n rounds sets 'longest (us)' 'sweeps (us)' 'blossoms (us)' 'combs (us)' 'solves (us)' blossoms combs
+columns='%6s %7s %6s %9s %9s %9s %9s %9s %9s %10s %8s %6s\n'
+printf "\n$columns" n rounds sets longest 'sweeps' longest 'blossoms' longest 'combs' 'solves us' blossoms combs
 for n in 100 200 500 1000; do printf "$columns" $(${RUN:-} "$program" rounds $n); done
