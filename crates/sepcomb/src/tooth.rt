@@ -1,5 +1,5 @@
 //! Teeth as sets.
-ghost use Rattle.std.specs.Prelude.{◌≡◌, ◌≤◌, ◌∷◌, IfOk};
+ghost use Rattle.std.specs.Prelude.{◌≡◌, ℕ, ◌<◌, ◌≤◌, false, ◌||◌, ◌∷◌, length, slice_index_or, IfOk};
 ghost use Rattle.tspdef.specs.Sets.{has};
 ghost use Rattle.sepcomb.specs.Growth.{set_below};
 
@@ -19,18 +19,47 @@ pub fn is_in(cities: &[u32], city: u32) -> bool
     false
 }
 
-/// The cities of a pair and of a path as a set.
+/// The cities of a pair and of a path as a set. O(n), and a step for each city of the path.
 pub fn tooth_of(alloc: Global, n: u32, pair: Entry, path: &[u32]) -> Result<CitySet, AllocError>
     requires many { 3 ≤ n }
     requires few { n ≤ 2000 }
     ensures { IfOk result (λ s. s ≡ record { n = n; cities = set_below n (pair.u ∷ pair.v ∷ path.now) }) }
 {
+    let marks = marks_of(alloc, n, pair, path)?;
     let mut cities = Vec::new(alloc);
     for city in 0..n {
-        if pair.u == city || pair.v == city || is_in(path, city) {
+        if is_marked(&marks, city) {
             cities.push(city)?;
         }
     }
     let set = set_of(alloc, n, cities)?;
     Ok(set)
+}
+
+/// Which of n cities are of a pair or of a path.
+fn marks_of(alloc: Global, n: u32, pair: Entry, path: &[u32]) -> Result<Vec<bool>, AllocError>
+    ensures { IfOk result (λ marks. (c : ℕ) → c < n → slice_index_or marks.items c false ≡ has (pair.u ∷ pair.v ∷ path.now) c) }
+{
+    let mut marks = vec![in alloc; false; n as usize]?;
+    mark(&mut marks, &[pair.u, pair.v]);
+    mark(&mut marks, path);
+    Ok(marks)
+}
+
+fn is_marked(marks: &[bool], city: u32) -> bool
+    ensures { result ≡ slice_index_or marks.now city false }
+{
+    marks.get(city as usize).copied().unwrap_or(false)
+}
+
+/// Marks cities, but those of which there is no mark.
+fn mark(marks: &mut [bool], cities: &[u32])
+    ensures long { length marks.new ≡ length marks.old }
+    ensures marked { (c : ℕ) → c < length marks.old → slice_index_or marks.new c false ≡ (slice_index_or marks.old c false || has cities.now c) }
+{
+    for city in cities {
+        if (*city as usize) < marks.len() {
+            marks[*city as usize] = true;
+        }
+    }
 }
