@@ -10,10 +10,10 @@ top=$(cd "$(dirname "$0")/.." && pwd)
 . "$top/bench/workspace.sh"
 workspace flowbench 'cyc simplex maxflow sepsub sepblos sepcomb anyhow'
 cat >"$work/crates/flowbench/src/main.rt" <<'RT'
-//! flowbench drawn N: the least weight, in microseconds of the processor the least set alone, the sets of a sweep, and in microseconds of the processor the sweep
-//! and, up to 1000, the plain flows, whose least is the same.
+//! flowbench drawn N: the least weight, the time of the least set alone, the sets of a sweep, the time of that sweep and, up to
+//! 1000, that of the plain flows, whose least is the same. All times are microseconds of the processor.
 //! flowbench rounds N: rounds, sets, the longest sweep, all sweeps, the longest search for blossoms and all of them, the same of
-//! combs, and all solves in microseconds of the processor, and how many blossoms and combs the last values have.
+//! combs, all solves, and how many blossoms and combs the last values have.
 #![tactic(auto)]
 
 use anyhow::{Result, bail};
