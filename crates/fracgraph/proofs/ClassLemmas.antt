@@ -2,13 +2,13 @@
 use Rattle.std.proofs.Common.{◌≡◌, ℕ, ◌<◌, ◌≤◌, ◌+◌, Bool, true, false, eqb, ◌||◌, List, [], ◌∷◌, ◌++◌, length, get_or, refl, sym, ap, subst, ◌∙◌, arith, ⊎_elim}
 use Rattle.std.specs.Prelude.{slice_index}
 use Rattle.std.specs.List.{AllByRecursion}
-use Rattle.std.proofs.lemmas.Bool.{cases_eq, cases_lt, cases_Bool, eq-eqb, ne_eqb, eqb-true, or_cases, or_left, or_right}
+use Rattle.std.proofs.lemmas.Bool.{cases_eq, cases_lt, eq-eqb, ne_eqb, eqb-true, or_cases, or_left, or_right}
 use Rattle.tspdef.specs.Sets.{has, RisesFrom}
 use Rattle.cyc.specs.CitySet.{Members}
 use Rattle.cyc.specs.Frac.{Values}
 use Rattle.cyc.proofs.ListLemmas.{has-push, has_at}
 use Rattle.fracgraph.specs.Components.{IsLinked, IsComponent, DoFirstsRise, first_city, is_in_any}
-use Rattle.fracgraph.specs.Labels.{AreLabels, IsClass}
+use Rattle.fracgraph.specs.Labels.{AreLabels, IsClass, IsFirst}
 
 -- ---- cities one by one
 
@@ -16,9 +16,9 @@ set_push : (k m : ℕ) (xs : List ℕ) → m ≤ k → RisesFrom k m xs → Rise
 set_push k m [] le r = ((le, omega arith), tt)
 set_push k m (x ∷ xs) le r = let a = r.0.0 in let b = r.0.1 in ((a, omega arith), set_push k (x + 1) xs (omega arith) r.1)
 
-set_wider : (k m : ℕ) (xs : List ℕ) → RisesFrom k m xs → RisesFrom (k + 1) m xs
-set_wider k m [] r = tt
-set_wider k m (x ∷ xs) r = let a = r.0.0 in let b = r.0.1 in ((a, omega arith), set_wider k (x + 1) xs r.1)
+set_wider : (k n m : ℕ) (xs : List ℕ) → k ≤ n → RisesFrom k m xs → RisesFrom n m xs
+set_wider k n m [] l r = tt
+set_wider k n m (x ∷ xs) l r = let a = r.0.0 in let b = r.0.1 in ((a, omega arith), set_wider k n (x + 1) xs l r.1)
 
 or_false : (b c : Bool) → b ≡ false → (b || c) ≡ c
 or_false true c e = absurd cc
@@ -35,14 +35,15 @@ class_push k labels label xs a t = record {
   outside = λ j h. has-push xs k j ∙ (or_false (eqb k j) (has xs j) (ne_eqb k j (omega arith)) ∙ a.outside j (omega arith));
 }
 
--- the next city has another
-pub class_skip : (k : ℕ) (labels : List ℕ) (label : ℕ) (xs : List ℕ) → IsClass k labels label xs → (slice_index labels k ≡ label → ⊥) → IsClass (k + 1) labels label xs
-class_skip k labels label xs a f = record {
-  set = set_wider k 0 xs a.set;
+-- none of the next cities has it
+pub class_skip : (k m : ℕ) (labels : List ℕ) (label : ℕ) (xs : List ℕ) → k ≤ m → IsClass k labels label xs → ((c : ℕ) → k ≤ c → c < m → slice_index labels c ≡ label → ⊥)
+    → IsClass m labels label xs
+class_skip k m labels label xs l a f = record {
+  set = set_wider k m 0 xs l a.set;
   inside = λ j h. ⊎_elim
-      (λ (e : j ≡ k). a.outside j (omega arith) ∙ sym (ne_eqb (slice_index labels j) label (λ s. f (ap (slice_index labels) (sym e) ∙ s))))
-      (λ (ne : j ≡ k → ⊥). a.inside j (omega arith))
-      (cases_eq j k);
+      (λ (e : j < k). a.inside j e)
+      (λ (p : k ≤ j). a.outside j p ∙ sym (ne_eqb (slice_index labels j) label (f j p h)))
+      (cases_lt j k);
   outside = λ j h. a.outside j (omega arith);
 }
 
@@ -82,7 +83,7 @@ class_has : (n : ℕ) (labels : List ℕ) (label : ℕ) (xs : List ℕ) (u : ℕ
 class_has n labels label xs u a l e = a.inside u l ∙ eq-eqb _ _ e
 
 one_label : (x : Values) (low high : ℕ) (labels : List ℕ) (u v : ℕ) → AreLabels x low high x.entries labels → IsLinked x low high u v → slice_index labels u ≡ slice_index labels v
-one_label x low high labels u v is link = is.linked u v link.u_below link.v_below link.above link.below
+one_label x low high labels u v is link = is.each.linked u v link.u_below link.v_below link.above link.below
 
 class_is_component : (x : Values) (low high : ℕ) (labels : List ℕ) (label : ℕ) (xs : List ℕ) → AreLabels x low high x.entries labels → IsClass x.n labels label xs → 2 ≤ length xs
     → IsComponent x low high (record { n = x.n; cities = xs })
@@ -93,7 +94,7 @@ class_is_component x low high labels label xs is a many = record {
   joined = λ u v p q.
       let r = class_in x.n labels label xs u a p in
       let s = class_in x.n labels label xs v a q in
-      is.joined u v r.0 s.0 (r.1 ∙ sym s.1);
+      is.each.joined u v r.0 s.0 (r.1 ∙ sym s.1);
   closed = λ u v p link.
       let r = class_in x.n labels label xs u a p in
       class_has x.n labels label xs v a link.v_below (sym (one_label x low high labels u v is link) ∙ r.1);
@@ -109,7 +110,7 @@ class_first x low high labels city xs is a l own =
     let holds = class_has x.n labels city xs city a l own in
     let below = first_least x.n 0 city xs a.set holds in
     let first = class_in x.n labels city xs (get_or xs 0 0) a (has_at xs 0 0 (some_in xs city holds)) in
-    let least = is.least (get_or xs 0 0) first.0 in
+    let least = is.each.least (get_or xs 0 0) first.0 in
     let e = first.1 in
     omega arith
 
@@ -162,20 +163,30 @@ found_same x low high labels city sets f none = record {
 pub found_other : (x : Values) (low high : ℕ) (labels : List ℕ) (city : ℕ) (sets : List Members) → AreLabels x low high x.entries labels → (slice_index labels city ≡ city → ⊥)
     → AreFound x low high labels city sets → AreFound x low high labels (city + 1) sets
 found_other x low high labels city sets is ne f =
-    found_same x low high labels city sets f (λ u v link e. ne (ap (slice_index labels) (sym e) ∙ (is.root u link.u_below ∙ e)))
+    found_same x low high labels city sets f (λ u v link e. ne (ap (slice_index labels) (sym e) ∙ (is.each.root u link.u_below ∙ e)))
 
 -- or of one that is a single city
-pub found_single : (x : Values) (low high : ℕ) (labels : List ℕ) (city : ℕ) (xs : List ℕ) (sets : List Members) → AreLabels x low high x.entries labels → IsClass x.n labels city xs → length xs < 2
+pub found_single : (x : Values) (low high : ℕ) (labels : List ℕ) (city next : ℕ) (sets : List Members) → AreLabels x low high x.entries labels → IsFirst x.n labels city (city + 1) next → x.n ≤ next
     → AreFound x low high labels city sets → AreFound x low high labels (city + 1) sets
-found_single x low high labels city xs sets is a few f =
+found_single x low high labels city next sets is first past f =
     found_same x low high labels city sets f (λ u v link e.
-    let two = two_in xs u v link.apart (class_has x.n labels city xs u a link.u_below e) (class_has x.n labels city xs v a link.v_below (sym (one_label x low high labels u v is link) ∙ e)) in
-    omega arith)
+    let other = sym (one_label x low high labels u v is link) ∙ e in
+    link.apart (alone u link.u_below e ∙ sym (alone v link.v_below other)))
+  where
+    alone : (c : ℕ) → c < x.n → slice_index labels c ≡ city → c ≡ city
+    alone c h e =
+        let least = is.each.least c h in
+        ⊎_elim
+        (λ (l : c < city + 1). omega arith)
+        (λ (l : city + 1 ≤ c). absurd (first.none c l (omega arith) e))
+        (cases_lt c (city + 1))
 
 -- or of a component
-pub found_push : (x : Values) (low high : ℕ) (labels : List ℕ) (city : ℕ) (xs : List ℕ) (sets : List Members) → AreLabels x low high x.entries labels → IsClass x.n labels city xs → 2 ≤ length xs
-    → city < x.n → slice_index labels city ≡ city → AreFound x low high labels city sets → AreFound x low high labels (city + 1) (sets ++ record { n = x.n; cities = xs } ∷ [])
-found_push x low high labels city xs sets is a many l own f =
+pub found_push : (x : Values) (low high : ℕ) (labels : List ℕ) (city next : ℕ) (xs : List ℕ) (sets : List Members) → AreLabels x low high x.entries labels → IsClass x.n labels city xs
+    → IsFirst x.n labels city (city + 1) next → next < x.n → city < x.n → slice_index labels city ≡ city → AreFound x low high labels city sets → AreFound x low high labels (city + 1) (sets ++ record { n = x.n; cities = xs } ∷ [])
+found_push x low high labels city next xs sets is a after within l own f =
+    let later = after.after in
+    let many = two_in xs city next (λ e. omega arith) (class_has x.n labels city xs city a l own) (class_has x.n labels city xs next a within (after.same within)) in
     let s : Members = record { n = x.n; cities = xs } in
     let first : first_city s ≡ city = class_first x low high labels city xs is a l own in
     record {

@@ -1,3 +1,4 @@
 pub mod WalkLemmas
 pub mod LabelLemmas
+pub mod RootLemmas
 pub mod ClassLemmas

@@ -10,27 +10,26 @@ ghost use Rattle.fracgraph.specs.Components.{AreComponents};
 mod classes;
 mod labels;
 
-use classes::{class_of, set_of};
+use classes::{class_of, nexts_of, set_of};
 use cyc::{CitySet, Frac};
 use std::alloc::{AllocError, Global};
 
 /// The components of the graph of the pairs whose value, in units, is above `low` and below `high`: those of two cities or
 /// more, in order of their least city.
 ///
-/// Each component takes a pass over the cities, and so does each entry that joins two parts: O(entries + n * n), where no
-/// step does more than compare and set a number.
+/// An entry that joins two parts takes a step for each parent above its cities, and else each city takes a few:
+/// O(entries * depth + n), where the depth is that of the trees of parts, two or three in practice.
 pub fn components(alloc: Global, x: &Frac, low: u32, high: u32) -> Result<Vec<CitySet>, AllocError>
     ensures { IfOk result (λ sets. AreComponents x.now low high sets.items) }
 {
     let labels = labels::of(alloc, x, low, high)?;
     let n = x.n();
+    let nexts = nexts_of(alloc, n, &labels)?;
     let mut sets = Vec::new(alloc);
     for city in 0..n {
-        if labels[city as usize] == city {
-            let cities = class_of(alloc, n, &labels, city)?;
-            if cities.len() >= 2 {
-                sets.push(set_of(alloc, n, cities)?)?;
-            }
+        if labels[city as usize] == city && nexts[city as usize] < n {
+            let cities = class_of(alloc, &labels, &nexts, city)?;
+            sets.push(set_of(alloc, n, cities)?)?;
         }
     }
     Ok(sets)

@@ -1,15 +1,21 @@
-use Rattle.std.proofs.Common.{◌+◌, List, ℕ, sym, subst}
-use Rattle.fracgraph.specs.Labels.{IsClass}
+use Rattle.std.proofs.Common.{◌+◌, ◌∷◌, [], ◌++◌, arith}
+use Rattle.std.specs.Prelude.{slice_index}
+use Rattle.fracgraph.specs.Labels.{IsFirst}
 use Rattle.fracgraph.proofs.ClassLemmas.{class_push, class_skip}
 use Rattle.fracgraph.proofs.classes.class_of.Goals as goal
-use Rattle.fracgraph.proofs.classes.class_of.Goals.{then-labels-city+in_ok-push, else-labels-city}
 
-pub loop-city-preserved : goal.loop-city-preserved
-loop-city-preserved c =
-    let city = c.loop-city.city in
-    let labels = c.args.labels.now in
-    let xs = c.loop-city.cities.items in
-    elim c.if-labels-city.branch [
-      | then-labels-city+in_ok-push w ↦ rw (w.cities-is, w.in_ok-push.ensures.items) (class_push city labels c.args.label xs c.loop-city.invariant w.if-labels-city.true)
-      | else-labels-city w ↦ rw w.cities-is (class_skip city labels c.args.label xs c.loop-city.invariant w.if-labels-city.false)
-    ]
+pub loop-here-preserved : goal.loop-here-preserved
+loop-here-preserved c =
+    let labels = c.args._labels.now in
+    let here = c.loop-here.here in
+    let xs = c.loop-here.cities.items in
+    let old = c.loop-here.invariant in
+    let long = c.requires.nexts.long in
+    let below = c.loop-here-test.true in
+    let mine = old.same (omega arith) in
+    let next : IsFirst _ labels c.args.city (here + 1) (slice_index c.args.nexts.now here) = rw mine at (c.requires.nexts.each here (omega arith)) in
+    rw c.in_ok-push.ensures.items (record {
+      within = next.within;
+      same = next.same;
+      so_far = class_skip (here + 1) (slice_index c.args.nexts.now here) labels c.args.city (xs ++ here ∷ []) next.after (class_push here labels c.args.city xs old.so_far mine) next.none;
+    })

@@ -1,7 +1,7 @@
-use Rattle.std.proofs.Common.{Vec, Global, ◌≡◌, ◌<◌, ℕ, List, length, get_or, sym, ap, subst, ◌∙◌, arith}
+use Rattle.std.proofs.Common.{Vec, Global, ◌≡◌, ◌<◌, ℕ, List, length, get_or, ap, subst, ◌∙◌, arith}
 use Rattle.std.proofs.lemmas.List.{get_or_default, with_items_is}
 use Rattle.cyc.specs.declared.frac.Entry.{Entry}
-use Rattle.fracgraph.specs.Labels.{AreLabels}
+use Rattle.fracgraph.specs.Labels.{root_of}
 use Rattle.fracgraph.proofs.LabelLemmas.{labels_linked, labels_kept}
 use Rattle.fracgraph.proofs.labels.of.Goals as goal
 use Rattle.fracgraph.proofs.labels.of.Goals.{then-low-entry+then-entry-high, else-low-entry, else-low-entry-via-then-low-entry+else-entry-high, else-low-entry-via-else-low-entry}
@@ -22,18 +22,27 @@ loop-entry-preserved c =
     let is = read x.entries fs i c.entries-entry-items.ensures.value c.loop-entry-test.true in
     let within = subst (λ (es : List Entry). i < length es) c.entries-entry-items.ensures.value c.loop-entry-test.true in
     let old = c.loop-entry.invariant in
+    let parents = c.loop-entry.parents.items in
     elim c.if-low-entry.branch [
       | then-low-entry+then-entry-high w ↦
           let same = w.deref_mut.ensures.value in
-          let long : length w.deref_mut.result.now ≡ x.n = ap length same ∙ old.long in
-          let long' : length w.merge.new.labels ≡ length w.deref_mut.result.now = w.merge.auto.labels in
-          let items = ap (λ (v : Vec ℕ Global). v.items) w.labels-is ∙ with_items_is c.loop-entry.labels w.merge.new.labels (omega (arith, long', c.loop-entry.labels.ok.0, same)) in
-          rw items (labels_linked x c.args.low c.args.high i e c.loop-entry.labels.items w.merge.new.labels c.entries-entry-items.ensures.entries within is
-          w.if-low-entry.true w.if-entry-high.true (long' ∙ long) (λ k h. rw same at (w.merge.ensures k (omega arith))) old)
+          let long' : length w.merge.new.parents ≡ length w.deref_mut.result.now = w.merge.auto.parents in
+          let long : length w.merge.new.parents ≡ x.n = long' ∙ (ap length same ∙ old.long) in
+          let items = ap (λ (v : Vec ℕ Global). v.items) w.parents-is ∙ with_items_is c.loop-entry.parents w.merge.new.parents (omega (arith, long', c.loop-entry.parents.ok.0, same)) in
+          rw items (record {
+            long = long;
+            fall = w.merge.ensures.fall;
+            each = labels_linked x c.args.low c.args.high i e (root_of parents) (root_of w.merge.new.parents) c.entries-entry-items.ensures.entries within is
+                w.if-low-entry.true w.if-entry-high.true (λ k h. rw same at (w.merge.ensures.roots k (omega arith))) old.each;
+          })
       | else-low-entry w ↦
-          rw w.labels-is (labels_kept x c.args.low c.args.high i e c.loop-entry.labels.items within is
-          (λ l h. elim w.else-low-entry.branch [
-            | else-low-entry-via-then-low-entry+else-entry-high v ↦ let f = v.if-entry-high.false in omega arith
-            | else-low-entry-via-else-low-entry v ↦ let f = v.if-low-entry.false in omega arith
-          ]) old)
+          rw w.parents-is (record {
+            long = old.long;
+            fall = old.fall;
+            each = labels_kept x c.args.low c.args.high i e (root_of parents) within is
+                (λ l h. elim w.else-low-entry.branch [
+                  | else-low-entry-via-then-low-entry+else-entry-high v ↦ let f = v.if-entry-high.false in omega arith
+                  | else-low-entry-via-else-low-entry v ↦ let f = v.if-low-entry.false in omega arith
+                ]) old.each;
+          })
     ]

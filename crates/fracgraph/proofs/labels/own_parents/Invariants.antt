@@ -1,9 +1,9 @@
 use Rattle.std.proofs.Common.{◌≡◌, ◌<◌, ℕ, length}
 use Rattle.std.specs.Prelude.{slice_index}
-use Rattle.fracgraph.proofs.labels.own_labels.Given as goal
+use Rattle.fracgraph.proofs.labels.own_parents.Given as goal
 
 abbrev pub invariant-loop-city : goal.invariant-loop-city
 invariant-loop-city l = record {
-  long : length l.labels.items ≡ l.city;
-  own : (c : ℕ) → c < l.city → slice_index l.labels.items c ≡ c;
+  long : length l.parents.items ≡ l.city;
+  own : (c : ℕ) → c < l.city → slice_index l.parents.items c ≡ c;
 }
