@@ -3,6 +3,10 @@
 //! These programs have no contracts: the separators that tests compare with them have (those of `maxflow`, `sepsub`, `sepblos`
 //! and `sepcomb`), and a program that shares no line with them is what the comparison is worth.
 
+ghost use Rattle.std.specs.Prelude.{◌≡◌, ◌+◌, ◌-◌, ◌*◌, ◌%◌, ◌^◌, ◌<◌, ◌≤◌, length, sum_by};
+ghost use Rattle.tspplain.specs.Bits.{bit_of};
+ghost use Rattle.tspplain.specs.Crossings.{crossing_of, IsLeastCrossing, IsBetween, asked_of};
+
 use crate::bits::{bit, parts};
 use cyc::Frac;
 use std::alloc::{AllocError, Global};
@@ -14,7 +18,10 @@ const ONE: u32 = 0x10_0000;
 const NEAR: u32 = ONE - 0x400;
 
 /// The sum of the values that cross the set.
-pub fn crossing(x: &Frac, set: u32) -> u64 {
+pub fn crossing(x: &Frac, set: u32) -> u64
+    ensures value { result ≡ crossing_of x.now.entries set }
+    ensures small { result ≤ 2 ^ 40 }
+{
     let mut sum: u64 = 0;
     for entry in x.entries() {
         if parts(set, bit(entry.u) | bit(entry.v)) {
@@ -25,7 +32,9 @@ pub fn crossing(x: &Frac, set: u32) -> u64 {
 }
 
 /// The least crossing weight of the sets that hold all of one set and none of another.
-pub fn least_between(x: &Frac, all: u32, none: u32) -> u64 {
+pub fn least_between(x: &Frac, all: u32, none: u32) -> u64
+    ensures { IsLeastCrossing x.now.entries (bit_of x.now.n) (IsBetween all none) result }
+{
     let mut least = u64::MAX;
     for set in 0..bit(x.n()) {
         if set & all == all && set & none == 0 {
@@ -36,7 +45,9 @@ pub fn least_between(x: &Frac, all: u32, none: u32) -> u64 {
 }
 
 /// The least crossing weight of all proper sets: of those without the last city, as their complements have the same.
-pub fn least_of_all(x: &Frac) -> u64 {
+pub fn least_of_all(x: &Frac) -> u64
+    ensures { IsLeastCrossing x.now.entries (bit_of (x.now.n - 1)) (λ set. 0 < set) result }
+{
     let mut least = u64::MAX;
     for set in 1..bit(x.n().saturating_sub(1)) {
         least = least.min(crossing(x, set));
@@ -64,7 +75,9 @@ fn is_least(set: u32, city: u32) -> bool {
 }
 
 /// By how much the values miss the comb of a handle and the teeth after it; 0 where they do not.
-pub fn missed(x: &Frac, sets: &[u32]) -> u64 {
+pub fn missed(x: &Frac, sets: &[u32]) -> u64
+    ensures { result ≡ asked_of (length sets.now) - sum_by (crossing_of x.now.entries) sets.now % 2 ^ 64 }
+{
     let mut sum = 0u64;
     for set in sets {
         sum = sum.wrapping_add(crossing(x, *set));
