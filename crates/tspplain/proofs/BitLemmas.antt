@@ -1,13 +1,13 @@
 -- Sets as bits: one city more, and which pairs a set parts.
-use Rattle.std.proofs.Common.{◌≡◌, ℕ, ◌*◌, ◌^◌, ◌<◌, ◌≤◌, min, max, Bool, true, false, not, cond, eqb, ◌||◌, ◌&&◌, sym, ap, ◌∙◌, arith, ◌⊎◌, inl, inr, ⊎_elim, subst}
-use Rattle.std.specs.Prelude.{bit_and, bit_or, ◌==◌}
-use Rattle.std.specs.Int.{bit_at}
+use Rattle.std.proofs.Common.{◌≡◌, ℕ, ◌+◌, ◌%◌, ◌*◌, ◌^◌, ◌<◌, ◌≤◌, min, max, Bool, true, false, not, cond, eqb, ◌||◌, ◌&&◌, w32, sym, ap, ◌∙◌, arith, ◌⊎◌, inl, inr, ⊎_elim, subst}
+use Rattle.std.specs.Prelude.{◌↔◌, bit_and, bit_or, bit_xor, ◌==◌}
+use Rattle.std.specs.Int.{bit_at, trailing_zeros}
 use Rattle.std.specs.Int.Bits.{and_zero_r}
-use Rattle.std.proofs.lemmas.Bool.{cases_eq, cases_lt, eq-eqb, ne_eqb}
+use Rattle.std.proofs.lemmas.Bool.{cases_eq, cases_lt, eq-eqb, ne_eqb, eqb-true, and_from, and_parts}
 use Rattle.std.proofs.lemmas.Bool.Decides.{nat_tests}
-use Rattle.std.proofs.lemmas.Nat.{pow_pos}
-use Rattle.std.proofs.lemmas.Nat.Bits.{bit_at-zero, bit_at-lt, bit_at_or, bit_at_and, bit_at-pow_same, bit_at-pow_other, bit_at_above, and_pow, same_from_bits}
-use Rattle.tspplain.specs.Bits.{bit_of, in_bits, has_part}
+use Rattle.std.proofs.lemmas.Nat.{pow_pos, and_le_r, xor_lt}
+use Rattle.std.proofs.lemmas.Nat.Bits.{bit_at-zero, bit_at-lt, bit_at_or, bit_at_and, bit_at_xor, bit_at-trailing_zeros, bit_at-pow_same, bit_at-pow_other, bit_at_above, and_pow, same_from_bits}
+use Rattle.tspplain.specs.Bits.{bit_of, in_bits, has_part, HasPart}
 use Rattle.tspplain.specs.Crossings.{crosses_bits}
 
 pub bit_of_within : (city : ℕ) → city < 32 → bit_of city ≡ 2 ^ city
@@ -229,3 +229,125 @@ parted set u v = ⊎_elim
     (λ past. ap (has_part set) (ap (λ k. bit_or k (bit_of v)) (bit_of_past u past) ∙ none_or (bit_of v))
     ∙ lone_part set (bit_of v) (bit_at set v) (and_bit set v) (one_bit set v) ∙ sym (past_first set u v past))
     (cases_lt u 32)
+
+-- ---- shared cities
+
+true_or_false : (b : Bool) → b ≡ true → b ≡ false → ⊥
+true_or_false b e f = let k : true ≡ false = sym e ∙ f in cc
+
+bit_from : (set city : ℕ) → in_bits set city ≡ true → bit_at set city ≡ 1
+bit_from set city h = eqb-true (bit_at set city) 1 h
+
+no_bit_from : (set city : ℕ) → in_bits set city ≡ false → bit_at set city ≡ 0
+no_bit_from set city h = ⊎_elim
+    (λ none. none)
+    (λ one. let t = yes_bit set city one in absurd (true_or_false (in_bits set city) t h))
+    (one_bit set city)
+
+full_case : (a b : ℕ) → a < 2 → min a b ≡ b → b ≡ 1 → a ≡ 1
+full_case a b l e f = omega arith
+
+free_case : (a b : ℕ) → min a b ≡ 0 → b ≡ 1 → a ≡ 0
+free_case a b e f = omega arith
+
+min_second : (a b : ℕ) → b ≡ 0 → min a b ≡ b
+min_second a b e = omega arith
+
+min_both : (a b : ℕ) → a ≡ 1 → b ≡ 1 → min a b ≡ b
+min_both a b e f = omega arith
+
+min_zero : (a b : ℕ) → b ≡ 0 → min a b ≡ 0
+min_zero a b e = omega arith
+
+zero_min : (a b : ℕ) → a ≡ 0 → min a b ≡ 0
+zero_min a b e = omega arith
+
+shared_at : (set other both city : ℕ) → bit_and set other ≡ both → min (bit_at set city) (bit_at other city) ≡ bit_at both city
+shared_at set other both city e = sym (bit_at_and set other city) ∙ ap (λ k. bit_at k city) e
+
+pub all_in : (set all : ℕ) → bit_and set all ≡ all → (city : ℕ) → in_bits all city ≡ true → in_bits set city ≡ true
+all_in set all e city h =
+    yes_bit set city (full_case (bit_at set city) (bit_at all city) (bit_at-lt set city) (shared_at set all all city e) (bit_from all city h))
+
+pub none_in : (set none : ℕ) → bit_and set none ≡ 0 → (city : ℕ) → in_bits none city ≡ true → in_bits set city ≡ false
+none_in set none e city h =
+    no_bit set city (free_case (bit_at set city) (bit_at none city) (shared_at set none 0 city e ∙ bit_at-zero city) (bit_from none city h))
+
+pub shares_every : (set all : ℕ) → ((city : ℕ) → in_bits all city ≡ true → in_bits set city ≡ true) → bit_and set all ≡ all
+shares_every set all f = same_from_bits (bit_and set all) all (λ city. bit_at_and set all city ∙ ⊎_elim
+    (λ out. min_second (bit_at set city) (bit_at all city) out)
+    (λ one. min_both (bit_at set city) (bit_at all city) (bit_from set city (f city (yes_bit all city one))) one)
+    (one_bit all city))
+
+pub shares_nothing : (set none : ℕ) → ((city : ℕ) → in_bits none city ≡ true → in_bits set city ≡ false) → bit_and set none ≡ 0
+shares_nothing set none f = same_from_bits (bit_and set none) 0 (λ city. bit_at_and set none city ∙ ⊎_elim
+    (λ out. min_zero (bit_at set city) (bit_at none city) out)
+    (λ one. zero_min (bit_at set city) (bit_at none city) (no_bit_from set city (f city (yes_bit none city one))))
+    (one_bit none city) ∙ sym (bit_at-zero city))
+
+-- ---- some and not all
+
+some_bit : (a : ℕ) → (a ≡ 0 → ⊥) → a < 2 ^ 32 → (city : ℕ) × (bit_at a city ≡ 1)
+some_bit a ne small = (trailing_zeros w32 a, (bit_at-trailing_zeros w32 a (omega arith) small).1)
+
+odd_case : (x y : ℕ) → (x + y) % 2 ≡ 1 → x ≡ y → ⊥
+odd_case x y e f = omega arith
+
+even_case : (x y : ℕ) → x < 2 → y < 2 → (x + y) % 2 ≡ 0 → x ≡ y
+even_case x y l m e = omega arith
+
+unlike_bit : (a b : ℕ) → (a ≡ b → ⊥) → a < 2 ^ 32 → b < 2 ^ 32 → (city : ℕ) × (bit_at a city ≡ bit_at b city → ⊥)
+unlike_bit a b ne ha hb =
+    let x = bit_xor a b in
+    let apart : x ≡ 0 → ⊥ = λ z. ne (same_from_bits a b (λ i. even_case (bit_at a i) (bit_at b i) (bit_at-lt a i) (bit_at-lt b i) (sym (bit_at_xor a b i) ∙ ap (λ k. bit_at k i) z ∙ bit_at-zero i))) in
+    let found = some_bit x apart (xor_lt 32 a b ha hb) in
+    (found.0, odd_case (bit_at a found.0) (bit_at b found.0) (sym (bit_at_xor a b found.0) ∙ found.1))
+
+both_ones : (a b : ℕ) → a < 2 → b < 2 → min a b ≡ 1 → (a ≡ 1) × (b ≡ 1)
+both_ones a b l m e = (omega arith, omega arith)
+
+second_one : (a b : ℕ) → a < 2 → b < 2 → (min a b ≡ b → ⊥) → (a ≡ 0) × (b ≡ 1)
+second_one a b l m e = (omega arith, omega arith)
+
+part_by_cities : (set other : ℕ) → set < 2 ^ 32 → other < 2 ^ 32 → has_part set other ≡ true → HasPart set other
+part_by_cities set other hs ho h =
+    let both = bit_and set other in
+    let small : both < 2 ^ 32 = let l = and_le_r set other in omega arith in
+    let in_both = some_bit both (λ z. true_or_false (has_part set other) h (part_of_none both other z)) small in
+    let in_one = unlike_bit both other (λ z. true_or_false (has_part set other) h (part_of_all both other z)) small ho in
+    let ones = both_ones (bit_at set in_both.0) (bit_at other in_both.0) (bit_at-lt set in_both.0) (bit_at-lt other in_both.0) (sym (bit_at_and set other in_both.0) ∙ in_both.1) in
+    let one = second_one (bit_at set in_one.0) (bit_at other in_one.0) (bit_at-lt set in_one.0) (bit_at-lt other in_one.0) (λ z. in_one.1 (bit_at_and set other in_one.0 ∙ z)) in
+    record {
+      some = (in_both.0, (yes_bit set in_both.0 ones.0, yes_bit other in_both.0 ones.1));
+      not_all = (in_one.0, (no_bit set in_one.0 one.0, yes_bit other in_one.0 one.1));
+    }
+
+not_both : (a b : ℕ) → a ≡ 1 → b ≡ 1 → min a b ≡ 0 → ⊥
+not_both a b e f g = omega arith
+
+not_second : (a b : ℕ) → a ≡ 0 → b ≡ 1 → min a b ≡ b → ⊥
+not_second a b e f g = omega arith
+
+cities_by_part : (set other : ℕ) → HasPart set other → has_part set other ≡ true
+cities_by_part set other p = part_of_some (bit_and set other) other
+    (λ z. let city = p.some.0 in not_both (bit_at set city) (bit_at other city) (bit_from set city p.some.1.0) (bit_from other city p.some.1.1) (shared_at set other 0 city z ∙ bit_at-zero city))
+    (λ z. let city = p.not_all.0 in not_second (bit_at set city) (bit_at other city) (no_bit_from set city p.not_all.1.0) (bit_from other city p.not_all.1.1) (shared_at set other other city z))
+
+not_equal : (a b : ℕ) → (a ≡ b → ⊥) → not (a == b) ≡ true
+not_equal a b ne = grind (arith, nat_tests)
+
+is_equal : (a b : ℕ) → a ≡ b → not (a == b) ≡ false
+is_equal a b e = grind (arith, nat_tests)
+
+-- the same, where the set has some of the cities, and where it has none
+pub part_of_shared : (set other : ℕ) → set < 2 ^ 32 → other < 2 ^ 32 → (bit_and set other ≡ 0 → ⊥) → (not (bit_and set other == other) ≡ true) ↔ HasPart set other
+part_of_shared set other hs ho some = (
+  λ h. part_by_cities set other hs ho (and_from (not (bit_and set other == 0)) (not (bit_and set other == other)) (not_equal (bit_and set other) 0 some) h),
+  λ p. (and_parts (not (bit_and set other == 0)) (not (bit_and set other == other)) (cities_by_part set other p)).1,
+)
+
+pub part_of_unshared : (set other : ℕ) → bit_and set other ≡ 0 → (not (bit_and set other == 0) ≡ true) ↔ HasPart set other
+part_of_unshared set other none = (
+  λ h. absurd (true_or_false (not (bit_and set other == 0)) h (is_equal (bit_and set other) 0 none)),
+  λ p. (and_parts (not (bit_and set other == 0)) (not (bit_and set other == other)) (cities_by_part set other p)).0,
+)

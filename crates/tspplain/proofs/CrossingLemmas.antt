@@ -1,19 +1,22 @@
 -- What crosses a set: how large it is at most.
-use Rattle.std.proofs.Common.{◌≡◌, ℕ, zero, suc, ◌+◌, ◌*◌, ◌^◌, ◌<◌, ◌≤◌, min, Bool, true, false, not, cond, ◌&&◌, List, [], ◌∷◌, length, take, get_or, sum_by, ℤ, pos, refl, sym, ◌∙◌, ap, subst, arith, inl, inr, ⊎_elim}
+use Rattle.std.proofs.Common.{◌≡◌, ℕ, zero, suc, ◌+◌, ◌-◌, ◌*◌, ◌^◌, ◌<◌, ◌≤◌, min, Bool, true, false, not, cond, ◌&&◌, List, [], ◌∷◌, ◌++◌, length, take, get_or, sum_by, ℤ, pos, refl, sym, ◌∙◌, ap, subst, arith, inl, inr, ⊎_elim}
 use Rattle.std.specs.Prelude.{◌%◌, ◌≤ℤ◌, nat_lt, bit_or}
 use Rattle.std.proofs.Math.Nat.{mul-le-mul_right}
 use Rattle.std.proofs.lemmas.Bool.{cases_lt, lt-ltb, le-ltb}
 use Rattle.std.proofs.lemmas.Int.{ints}
+use Rattle.std.specs.Global.{Vec}
+use Rattle.std.specs.List.{All}
+use Rattle.std.proofs.lemmas.List.Elements.{All-push}
 use Rattle.std.proofs.lemmas.List.Sums.{sum_by-cons, sum_by_more, sum_by-take-le}
 use Rattle.tspdef.specs.Sums.{sum_below, sum_pairs}
 use Rattle.tspdef.specs.Tours.{crosses}
-use Rattle.tspdef.proofs.SumLemmas.{sum_pairs-le}
+use Rattle.tspdef.proofs.SumLemmas.{sum_pairs-le, sum_pairs-same}
 use Rattle.cyc.specs.declared.frac.Entry.{Entry}
-use Rattle.cyc.specs.Frac.{value_of, AreEntries}
+use Rattle.cyc.specs.Frac.{Values, value_of, AreEntries}
 use Rattle.cyc.proofs.EntryLemmas.{value_small}
 use Rattle.cyc.proofs.EntrySums.{sums_by_entries}
 use Rattle.tspplain.specs.Bits.{bit_of, in_bits, has_part}
-use Rattle.tspplain.specs.Crossings.{crosses_bits, entry_crossing, crossing_of, IsLeastCrossing}
+use Rattle.tspplain.specs.Crossings.{crosses_bits, entry_crossing, crossing_of, crossing_weight, IsLeastCrossing, asked_of, IsMissedComb}
 use Rattle.tspplain.proofs.BitLemmas.{parted}
 
 -- one where the pair crosses the set
@@ -168,3 +171,32 @@ least_without es limit kind least l other = record {
       (λ some. inr (some.0, (let b = some.1.0 in omega arith, (some.1.1.0, some.1.1.1))))
       l.attained;
 }
+
+-- ---- over all pairs
+
+guards : (p q b : Bool) → p ≡ true → q ≡ true → (p && (q && b)) ≡ b
+guards p q b e f = ap (λ c. c && (q && b)) e ∙ ap (λ c. c && b) f
+
+-- the sum over the entries is that over all pairs, where each city has a bit
+pub by_pairs : (x : Values) (set : ℕ) → AreEntries x.n x.entries → x.n ≤ 32 → pos (crossing_of x.entries set) ≡ crossing_weight x set
+unfolding crossing_of
+by_pairs x set a few =
+    sym (sums_by_entries x.n x.entries (one_if_crossed set) a (turned set) ∙ ap pos (sums_same x.entries set))
+    ∙ sum_pairs-same (λ u v. pos (value_of x.entries u v * one_if_crossed set u v)) (λ u v. pos (value_of x.entries u v * cond (crosses (in_bits set) (u, v)) 1 0)) x.n
+    (λ u v l m. ap (λ b. pos (value_of x.entries u v * cond b 1 0)) (guards (nat_lt u 32) (nat_lt v 32) (crosses (in_bits set) (u, v)) (lt-ltb u 32 (omega arith)) (lt-ltb v 32 (omega arith))))
+
+-- ---- what is asked of few sets
+
+pub asked_plainly : (sets : ℕ) → 0 < sets → sets ≤ 2 ^ 20 → asked_of sets ≡ (3 * sets - 2) * 2 ^ 20
+asked_plainly sets h k = omega arith
+
+-- ---- the combs found so far
+
+abbrev pub AreMissedCombs : List Entry → List (Vec ℕ) → Type 0
+AreMissedCombs es found = All (λ sets. IsMissedComb es sets.items) found
+
+-- one more, by what the push and the test say
+pub found_more : (es : List Entry) (before after : List (Vec ℕ)) (sets : Vec ℕ) (list : List ℕ)
+    → AreMissedCombs es before → after ≡ before ++ sets ∷ [] → list ≡ sets.items → IsMissedComb es list → AreMissedCombs es after
+found_more es before after sets list a e f h =
+    subst (AreMissedCombs es) (sym e) (All-push (λ (s : Vec ℕ). IsMissedComb es s.items) before sets a (subst (IsMissedComb es) f h))

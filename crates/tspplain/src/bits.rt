@@ -1,8 +1,8 @@
 //! Sets of fewer than 32 cities as bits: city c is in the set where bit c is 1.
 
-ghost use Rattle.std.specs.Prelude.{◌≡◌, ℕ, ◌<◌};
+ghost use Rattle.std.specs.Prelude.{◌≡◌, ℕ, ◌<◌, ◌↔◌, IsTrue};
 ghost use Rattle.tspdef.specs.Sets.{has};
-ghost use Rattle.tspplain.specs.Bits.{bit_of, in_bits, has_part};
+ghost use Rattle.tspplain.specs.Bits.{bit_of, in_bits, has_part, HasPart};
 
 use cyc::CitySet;
 
@@ -22,7 +22,8 @@ pub fn holds(set: u32, city: u32) -> bool
 
 /// Whether a set has some cities of another, and not all.
 pub fn parts(set: u32, other: u32) -> bool
-    ensures { result ≡ has_part set other }
+    ensures value { result ≡ has_part set other }
+    ensures cities { IsTrue result ↔ HasPart set other }
 {
     set & other != 0 && set & other != other
 }

@@ -1,10 +1,11 @@
-use Rattle.std.proofs.Common.{◌≡◌, ◌+◌, ◌%◌, ◌^◌, get_or, take, refl, sym, ap, subst, ◌∙◌, arith}
+use Rattle.std.proofs.Common.{pos, ◌≡◌, ◌+◌, ◌%◌, ◌^◌, get_or, take, refl, sym, ap, subst, ◌∙◌, arith}
 use Rattle.std.specs.Prelude.{bit_or}
+use Rattle.std.proofs.lemmas.Grind.{common_steps}
 use Rattle.cyc.specs.declared.frac.Entry.{Entry}
 use Rattle.cyc.specs.Frac.{AreEntries}
 use Rattle.tspplain.specs.Bits.{bit_of, has_part}
 use Rattle.tspplain.specs.Crossings.{crossing_of}
-use Rattle.tspplain.proofs.CrossingLemmas.{crossing_small, crossing_part, sum_with, sum_without}
+use Rattle.tspplain.proofs.CrossingLemmas.{crossing_small, crossing_part, sum_with, sum_without, by_pairs}
 use Rattle.tspplain.proofs.separation.crossing.Goals.{then-parts, else-parts}
 use Rattle.tspplain.proofs.separation.crossing.Goals as goal
 
@@ -21,7 +22,7 @@ loop-entry-preserved c =
     let all : AreEntries c.args.x.now.n entries = subst (AreEntries c.args.x.now.n) (sym c.entries-entry-items.ensures.value) c.entries-entry-items.ensures.entries in
     let so_far : c.loop-entry.sum ≡ crossing_of (take i entries) c.args.set = c.loop-entry.invariant in
     let test : has_part c.args.set (bit_or (bit_of e.u) (bit_of e.v)) ≡ c.parts.result =
-    sym (c.parts.ensures ∙ ap (λ k. has_part c.args.set (bit_or k c.bit-in-loop-entry.result)) c.bit.ensures ∙ ap (λ k. has_part c.args.set (bit_or (bit_of e.u) k)) c.bit-in-loop-entry.ensures) in
+    sym (c.parts.ensures.value ∙ ap (λ k. has_part c.args.set (bit_or k c.bit-in-loop-entry.result)) c.bit.ensures ∙ ap (λ k. has_part c.args.set (bit_or (bit_of e.u) k)) c.bit-in-loop-entry.ensures) in
     elim c.if-parts.branch [
       | then-parts w ↦
           w.sum-is ∙ ap (λ k. (c.loop-entry.sum + k) % 2 ^ 64) w.from-sum.ensures
@@ -35,3 +36,8 @@ returns-clause-small c =
     let all : AreEntries c.args.x.now.n entries = subst (AreEntries c.args.x.now.n) (sym c.entries-entry-items.ensures.value) c.entries-entry-items.ensures.entries in
     let so_far : c.loop-entry.sum ≡ crossing_of (take c.loop-entry.entry-index entries) c.args.set = c.loop-entry.invariant in
     omega (arith, so_far, crossing_part entries c.args.set c.loop-entry.entry-index, crossing_small c.args.x.now.n entries c.args.set all)
+
+pub returns-clause-pairs : goal.returns-clause-pairs
+returns-clause-pairs c = λ few.
+    let value : c.loop-entry.sum ≡ crossing_of c.args.x.now.entries c.args.set = grind (arith, common_steps) in
+    ap pos value ∙ by_pairs c.args.x.now c.args.set c.entries-entry-items.ensures.entries few
