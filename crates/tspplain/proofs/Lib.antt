@@ -1,2 +1,4 @@
 pub mod Steps
 pub mod SearchLemmas
+pub mod BitLemmas
+pub mod CrossingLemmas

@@ -1,3 +1,5 @@
 pub mod Values
 pub mod Trees
 pub mod Searches
+pub mod Bits
+pub mod Crossings

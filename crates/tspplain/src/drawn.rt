@@ -1,6 +1,6 @@
 //! Values on pairs of cities that look drawn: what separators are tried on. Equal numbers give equal values.
 
-ghost use Rattle.std.specs.Prelude.{◌≤◌};
+ghost use Rattle.std.specs.Prelude.{◌≡◌, ◌+◌, ◌*◌, ◌%◌, ◌^◌, ◌≤◌, IfOk};
 
 use crate::bits::{bit, parts};
 use cyc::{Entry, Frac, FracError};
@@ -13,7 +13,9 @@ const ONE: u32 = 0x10_0000;
 const NEAR: u32 = ONE - 0x400;
 
 /// The next of some numbers that look drawn.
-pub fn next(state: u64) -> u64 {
+pub fn next(state: u64) -> u64
+    ensures { result ≡ (state * 6364136223846793005 + 1442695040888963407) % 2 ^ 64 }
+{
     state
         .wrapping_mul(6_364_136_223_846_793_005)
         .wrapping_add(1_442_695_040_888_963_407)
@@ -56,7 +58,9 @@ fn loose_entries(
 }
 
 /// Values on some pairs of 3 to 10 cities: zeros, ties, and now and then two parts that no pair joins.
-pub fn loose_values(alloc: Global, number: u64) -> Result<Frac, FracError> {
+pub fn loose_values(alloc: Global, number: u64) -> Result<Frac, FracError>
+    ensures { IfOk result (λ x. (3 ≤ x.n) × (x.n ≤ 10)) }
+{
     let seed = next(number ^ 0x5eed);
     let n = 3 + (seed >> 40) as u32 % 8;
     let entries = loose_entries(alloc, n, number % 3, number % 4 == 1, seed)?;
@@ -142,7 +146,9 @@ fn six_to_twelve(word: u64) -> u32
 }
 
 /// Values on the pairs of 6 to 12 cities, many of which have blossoms.
-pub fn blossom_values(alloc: Global, number: u64) -> Result<Frac, FracError> {
+pub fn blossom_values(alloc: Global, number: u64) -> Result<Frac, FracError>
+    ensures { IfOk result (λ x. (6 ≤ x.n) × (x.n ≤ 12)) }
+{
     let seed = next(next(number ^ 0x5eed));
     let n = six_to_twelve(seed);
     let entries = two_sided_entries(alloc, n, (seed >> 33) as u32, seed, false)?;
@@ -150,7 +156,9 @@ pub fn blossom_values(alloc: Global, number: u64) -> Result<Frac, FracError> {
 }
 
 /// Values on the pairs of 6 to 12 cities, many of which have combs, some with teeth that grow.
-pub fn comb_values(alloc: Global, number: u64) -> Result<Frac, FracError> {
+pub fn comb_values(alloc: Global, number: u64) -> Result<Frac, FracError>
+    ensures { IfOk result (λ x. (6 ≤ x.n) × (x.n ≤ 12)) }
+{
     let seed = next(next(number ^ 0x5eed));
     let n = six_to_twelve(seed);
     let entries = two_sided_entries(alloc, n, (seed >> 33) as u32 | 7, seed, true)?;

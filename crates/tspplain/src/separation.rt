@@ -1,7 +1,13 @@
 //! Cuts that values on pairs of cities violate, by going through all sets or along all pairs, over bits.
 //!
-//! These programs have no contracts: the separators that tests compare with them have (those of `maxflow`, `sepsub`, `sepblos`
-//! and `sepcomb`), and a program that shares no line with them is what the comparison is worth.
+//! Proved are what crosses a set, the least that crosses a set of a kind, and by how much values miss a comb. Of the blossoms and
+//! combs it is proved that each is missed, and not which are found: a contract for that would be the one of the separators that
+//! tests compare with them (`sepblos`, `sepcomb`), and a program that shares no line with them is what the comparison is worth.
+
+ghost use Rattle.std.specs.Prelude.{◌≡◌, ◌-◌, ◌*◌, ◌^◌, ◌<◌, ◌≤◌, ◌↔◌, length, sum_by, pos, IfOk, IsTrue};
+ghost use Rattle.std.specs.List.{All};
+ghost use Rattle.tspplain.specs.Bits.{bit_of};
+ghost use Rattle.tspplain.specs.Crossings.{crossing_of, crossing_weight, IsLeastCrossing, IsBetween, missed_of, IsMissedComb};
 
 use crate::bits::{bit, parts};
 use cyc::Frac;
@@ -14,7 +20,11 @@ const ONE: u32 = 0x10_0000;
 const NEAR: u32 = ONE - 0x400;
 
 /// The sum of the values that cross the set.
-pub fn crossing(x: &Frac, set: u32) -> u64 {
+pub fn crossing(x: &Frac, set: u32) -> u64
+    ensures value { result ≡ crossing_of x.now.entries set }
+    ensures pairs { x.now.n ≤ 32 → pos result ≡ crossing_weight x.now set }
+    ensures small { result ≤ 2 ^ 40 }
+{
     let mut sum: u64 = 0;
     for entry in x.entries() {
         if parts(set, bit(entry.u) | bit(entry.v)) {
@@ -25,7 +35,9 @@ pub fn crossing(x: &Frac, set: u32) -> u64 {
 }
 
 /// The least crossing weight of the sets that hold all of one set and none of another.
-pub fn least_between(x: &Frac, all: u32, none: u32) -> u64 {
+pub fn least_between(x: &Frac, all: u32, none: u32) -> u64
+    ensures { IsLeastCrossing x.now.entries (bit_of x.now.n) (IsBetween all none) result }
+{
     let mut least = u64::MAX;
     for set in 0..bit(x.n()) {
         if set & all == all && set & none == 0 {
@@ -36,7 +48,9 @@ pub fn least_between(x: &Frac, all: u32, none: u32) -> u64 {
 }
 
 /// The least crossing weight of all proper sets: of those without the last city, as their complements have the same.
-pub fn least_of_all(x: &Frac) -> u64 {
+pub fn least_of_all(x: &Frac) -> u64
+    ensures { IsLeastCrossing x.now.entries (bit_of (x.now.n - 1)) (λ set. 0 < set) result }
+{
     let mut least = u64::MAX;
     for set in 1..bit(x.n().saturating_sub(1)) {
         least = least.min(crossing(x, set));
@@ -64,7 +78,10 @@ fn is_least(set: u32, city: u32) -> bool {
 }
 
 /// By how much the values miss the comb of a handle and the teeth after it; 0 where they do not.
-pub fn missed(x: &Frac, sets: &[u32]) -> u64 {
+pub fn missed(x: &Frac, sets: &[u32]) -> u64
+    ensures value { result ≡ missed_of x.now.entries sets.now }
+    ensures plain { 0 < length sets.now → length sets.now ≤ 2 ^ 20 → result ≡ (3 * length sets.now - 2) * 2 ^ 20 - sum_by (crossing_of x.now.entries) sets.now }
+{
     let mut sum = 0u64;
     for set in sets {
         sum = sum.wrapping_add(crossing(x, *set));
@@ -77,7 +94,9 @@ pub fn missed(x: &Frac, sets: &[u32]) -> u64 {
 }
 
 /// Whether the sets are a handle and an odd number of teeth, three or more, and the values miss their comb by 2^10 units or more.
-fn is_missed_comb(x: &Frac, sets: &[u32]) -> bool {
+fn is_missed_comb(x: &Frac, sets: &[u32]) -> bool
+    ensures { IsTrue result ↔ IsMissedComb x.now.entries sets.now }
+{
     sets.len() >= 4 && sets.len() % 2 == 0 && missed(x, sets) >= 0x400
 }
 
@@ -99,7 +118,9 @@ fn blossom(alloc: Global, x: &Frac, handle: u32) -> Result<Option<Vec<u32>>, All
 }
 
 /// The sets of the violated blossoms, each its handle first.
-pub fn blossoms(alloc: Global, x: &Frac) -> Result<Vec<Vec<u32>>, AllocError> {
+pub fn blossoms(alloc: Global, x: &Frac) -> Result<Vec<Vec<u32>>, AllocError>
+    ensures { IfOk result (λ found. All (λ sets. IsMissedComb x.now.entries sets.items) found.items) }
+{
     let mut found = Vec::new(alloc);
     for city in 0..x.n() {
         let handle = reached(x, 0x400, city);
@@ -185,7 +206,9 @@ fn comb(alloc: Global, x: &Frac, handle: u32) -> Result<Vec<u32>, AllocError> {
 }
 
 /// The sets of the violated combs, each its handle first.
-pub fn combs(alloc: Global, x: &Frac) -> Result<Vec<Vec<u32>>, AllocError> {
+pub fn combs(alloc: Global, x: &Frac) -> Result<Vec<Vec<u32>>, AllocError>
+    ensures { IfOk result (λ found. All (λ sets. IsMissedComb x.now.entries sets.items) found.items) }
+{
     let mut found = Vec::new(alloc);
     for limit in [0x4_0000, 0x8_0000, 0xc_0000] {
         for city in 0..x.n() {
