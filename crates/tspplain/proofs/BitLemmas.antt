@@ -1,12 +1,13 @@
 -- Sets as bits: one city more, and which pairs a set parts.
-use Rattle.std.proofs.Common.{◌≡◌, ℕ, ◌+◌, ◌%◌, ◌*◌, ◌^◌, ◌<◌, ◌≤◌, min, max, Bool, true, false, not, cond, eqb, ◌||◌, ◌&&◌, w32, sym, ap, ◌∙◌, arith, ◌⊎◌, inl, inr, ⊎_elim, subst}
-use Rattle.std.specs.Prelude.{◌↔◌, bit_and, bit_or, bit_xor, ◌==◌}
+use Rattle.std.proofs.Common.{refl, ◌-◌, ◌/◌, ◌≡◌, ℕ, ◌+◌, ◌%◌, ◌*◌, ◌^◌, ◌<◌, ◌≤◌, min, max, Bool, true, false, not, cond, eqb, ◌||◌, ◌&&◌, w32, sym, ap, ◌∙◌, arith, ◌⊎◌, inl, inr, ⊎_elim, subst}
+use Rattle.std.specs.Prelude.{nat_lt, ◌↔◌, bit_and, bit_or, bit_xor, ◌==◌}
 use Rattle.std.specs.Int.{bit_at, trailing_zeros}
 use Rattle.std.specs.Int.Bits.{and_zero_r}
 use Rattle.std.proofs.lemmas.Bool.{cases_eq, cases_lt, eq-eqb, ne_eqb, eqb-true, and_from, and_parts}
 use Rattle.std.proofs.lemmas.Bool.Decides.{nat_tests}
-use Rattle.std.proofs.lemmas.Nat.{pow_pos, and_le_r, xor_lt}
-use Rattle.std.proofs.lemmas.Nat.Bits.{bit_at-zero, bit_at-lt, bit_at_or, bit_at_and, bit_at_xor, bit_at-trailing_zeros, bit_at-pow_same, bit_at-pow_other, bit_at_above, and_pow, same_from_bits}
+use Rattle.std.proofs.lemmas.Nat.{pow_pos, pow-add, and_le_r, xor_lt}
+use Rattle.std.proofs.Math.Nat.{div-lt_iff_lt-mul}
+use Rattle.std.proofs.lemmas.Nat.Bits.{bit_at-zero, bit_at-lt, bit_at_or, bit_at_and, bit_at_xor, bit_at-trailing_zeros, bit_at-pow_same, bit_at-pow_other, bit_at_ones, bit_at_above, and_pow, same_from_bits}
 use Rattle.tspplain.specs.Bits.{bit_of, in_bits, has_part, HasPart}
 use Rattle.tspplain.specs.Crossings.{crosses_bits}
 
@@ -351,3 +352,73 @@ part_of_unshared set other none = (
   λ h. absurd (true_or_false (not (bit_and set other == 0)) h (is_equal (bit_and set other) 0 none)),
   λ p. (and_parts (not (bit_and set other == 0)) (not (bit_and set other == other)) (cities_by_part set other p)).0,
 )
+
+-- ---- the complement
+
+-- the other cities below n
+abbrev pub others : ℕ → ℕ → ℕ
+others n set = bit_xor set (2 ^ n - 1)
+
+other_bit : (n set city : ℕ) → city < n → bit_at (others n set) city ≡ (bit_at set city + 1) % 2
+other_bit n set city h = bit_at_xor set (2 ^ n - 1) city ∙ ap (λ k. (bit_at set city + k) % 2) (bit_at_ones n city h)
+
+pub in_others : (n set city : ℕ) → city < n → in_bits (others n set) city ≡ not (in_bits set city)
+in_others n set city h = ⊎_elim
+    (λ out. yes_bit (others n set) city (other_bit n set city h ∙ ap (λ k. (k + 1) % 2) out) ∙ sym (ap not (no_bit set city out)))
+    (λ one. no_bit (others n set) city (other_bit n set city h ∙ ap (λ k. (k + 1) % 2) one) ∙ sym (ap not (yes_bit set city one)))
+    (one_bit set city)
+
+both_case : (b d : Bool) → cond (not b) (not (not d)) (not d) ≡ cond b (not d) d
+both_case true true = refl
+both_case true false = refl
+both_case false true = refl
+both_case false false = refl
+
+-- it is crossed by the same pairs
+pub others_crossed : (n set u v : ℕ) → u < n → v < n → crosses_bits (others n set) u v ≡ crosses_bits set u v
+others_crossed n set u v h k = ap (λ b. nat_lt u 32 && (nat_lt v 32 && b))
+    (ap (λ b. cond b (not (in_bits (others n set) v)) (in_bits (others n set) v)) (in_others n set u h)
+    ∙ ap (λ d. cond (not (in_bits set u)) (not d) d) (in_others n set v k) ∙ both_case (in_bits set u) (in_bits set v))
+
+quotient_below : (p x y : ℕ) → 0 < p → x < y * p → x / p < y
+quotient_below p x y h l = (div-lt_iff_lt-mul {k = p} {x = x} {y = y} h).1 l
+
+below_quotient : (p x y : ℕ) → 0 < p → x / p < y → x < y * p
+below_quotient p x y h l = (div-lt_iff_lt-mul {k = p} {x = x} {y = y} h).0 l
+
+even_below : (q : ℕ) → q < 2 → q % 2 ≡ 0 → q < 1
+even_below q l e = omega arith
+
+odd_at_one : (q : ℕ) → q < 2 → 1 ≤ q → q % 2 ≡ 1
+odd_at_one q l m = omega arith
+
+lower_half : (p x : ℕ) → 0 < p → x < 2 * p → x / p % 2 ≡ 0 → x < p
+lower_half p x h l e = let b = below_quotient p x 1 h (even_below (x / p) (quotient_below p x 2 h l) e) in omega arith
+
+upper_half : (p x : ℕ) → 0 < p → p ≤ x → x < 2 * p → x / p % 2 ≡ 1
+upper_half p x h m l = odd_at_one (x / p) (quotient_below p x 2 h l) (⊎_elim
+    (λ lt. let b = below_quotient p x 1 h lt in absurd (omega arith))
+    (λ ge. ge)
+    (cases_lt (x / p) 1))
+
+double : (m : ℕ) → 2 ^ (m + 1) ≡ 2 * 2 ^ m
+double m = let e = pow-add 2 m 1 in omega (arith, e)
+
+-- of a set with the last city the complement is without it
+pub others_lower : (m set : ℕ) → 2 ^ m ≤ set → set < 2 ^ (m + 1) → others (m + 1) set < 2 ^ m
+others_lower m set h l =
+    let d = double m in
+    let p = pow_pos m in
+    let top : bit_at set m ≡ 1 = upper_half (2 ^ m) set p h (omega arith) in
+    let none : bit_at (others (m + 1) set) m ≡ 0 = other_bit (m + 1) set m (omega arith) ∙ ap (λ k. (k + 1) % 2) top in
+    let small : others (m + 1) set < 2 ^ (m + 1) = xor_lt (m + 1) set (2 ^ (m + 1) - 1) l (omega arith) in
+    lower_half (2 ^ m) (others (m + 1) set) p (omega arith) none
+
+-- where the set is not all cities there are others
+pub some_others : (m set : ℕ) → set + 1 < 2 ^ (m + 1) → 0 < others (m + 1) set
+some_others m set l = ⊎_elim
+    (λ same.
+    let all : set ≡ 2 ^ (m + 1) - 1 = same_from_bits set (2 ^ (m + 1) - 1) (λ i. even_case (bit_at set i) (bit_at (2 ^ (m + 1) - 1) i) (bit_at-lt set i) (bit_at-lt (2 ^ (m + 1) - 1) i) (sym (bit_at_xor set (2 ^ (m + 1) - 1) i) ∙ ap (λ k. bit_at k i) same ∙ bit_at-zero i)) in
+    absurd (omega arith))
+    (λ ne. omega arith)
+    (cases_eq (others (m + 1) set) 0)

@@ -5,19 +5,19 @@ use Rattle.std.proofs.Math.Nat.{mul-le-mul_right}
 use Rattle.std.proofs.lemmas.Bool.{cases_lt, lt-ltb, le-ltb}
 use Rattle.std.proofs.lemmas.Int.{ints}
 use Rattle.std.specs.Global.{Vec}
-use Rattle.std.specs.List.{All}
+use Rattle.std.specs.List.{All, AllByRecursion}
 use Rattle.std.proofs.lemmas.List.Elements.{All-push}
 use Rattle.std.proofs.lemmas.List.Sums.{sum_by-cons, sum_by_more, sum_by-take-le}
 use Rattle.tspdef.specs.Sums.{sum_below, sum_pairs}
 use Rattle.tspdef.specs.Tours.{crosses}
 use Rattle.tspdef.proofs.SumLemmas.{sum_pairs-le, sum_pairs-same}
 use Rattle.cyc.specs.declared.frac.Entry.{Entry}
-use Rattle.cyc.specs.Frac.{Values, value_of, AreEntries}
+use Rattle.cyc.specs.Frac.{Values, value_of, IsEntry, AreEntries}
 use Rattle.cyc.proofs.EntryLemmas.{value_small}
 use Rattle.cyc.proofs.EntrySums.{sums_by_entries}
 use Rattle.tspplain.specs.Bits.{bit_of, in_bits, has_part}
 use Rattle.tspplain.specs.Crossings.{crosses_bits, entry_crossing, crossing_of, crossing_weight, IsLeastCrossing, asked_of, IsMissedComb}
-use Rattle.tspplain.proofs.BitLemmas.{parted}
+use Rattle.tspplain.proofs.BitLemmas.{parted, others, others_crossed, others_lower, some_others}
 
 -- one where the pair crosses the set
 abbrev one_if_crossed : ℕ → ℕ → ℕ → ℕ
@@ -200,3 +200,26 @@ pub found_more : (es : List Entry) (before after : List (Vec ℕ)) (sets : Vec �
     → AreMissedCombs es before → after ≡ before ++ sets ∷ [] → list ≡ sets.items → IsMissedComb es list → AreMissedCombs es after
 found_more es before after sets list a e f h =
     subst (AreMissedCombs es) (sym e) (All-push (λ (s : Vec ℕ). IsMissedComb es s.items) before sets a (subst (IsMissedComb es) f h))
+
+-- ---- sets with the last city
+
+crossing_of_others : (n set : ℕ) (es : List Entry) → AllByRecursion (IsEntry n) es → crossing_of es (others n set) ≡ crossing_of es set
+unfolding crossing_of
+crossing_of_others n set [] a = refl
+crossing_of_others n set (e ∷ es) a =
+    let ih : sum_by (entry_crossing (others n set)) es ≡ sum_by (entry_crossing set) es = crossing_of_others n set es a.1 in
+    let one = sum_by-cons (entry_crossing (others n set)) e es in
+    let two = sum_by-cons (entry_crossing set) e es in
+    let here : entry_crossing (others n set) e ≡ entry_crossing set e = ap (λ b. cond b e.x 0) (others_crossed n set e.u e.v a.0.u_below a.0.v_below) in
+    omega (arith, ih, one, two, here)
+
+-- the least of the sets without the last city is the least of all proper ones
+pub least_of_proper : (m : ℕ) (es : List Entry) (least set : ℕ) → IsLeastCrossing es (2 ^ m) (λ s. 0 < s) least → AllByRecursion (IsEntry (m + 1)) es
+    → 0 < set → set + 1 < 2 ^ (m + 1) → least ≤ crossing_of es set
+least_of_proper m es least set l a some less = ⊎_elim
+    (λ lower. l.within set lower some)
+    (λ upper.
+    let same = crossing_of_others (m + 1) set es a in
+    let w = l.within (others (m + 1) set) (others_lower m set upper (omega arith)) (some_others m set less) in
+    omega (arith, same, w))
+    (cases_lt set (2 ^ m))

@@ -4,8 +4,9 @@
 //! combs it is proved that each is missed, and not which are found: a contract for that would be the one of the separators that
 //! tests compare with them (`sepblos`, `sepcomb`), and a program that shares no line with them is what the comparison is worth.
 
-ghost use Rattle.std.specs.Prelude.{◌≡◌, ◌-◌, ◌*◌, ◌^◌, ◌<◌, ◌≤◌, ◌↔◌, length, sum_by, pos, IfOk, IsTrue};
+ghost use Rattle.std.specs.Prelude.{◌≡◌, ℕ, ◌+◌, ◌-◌, ◌*◌, ◌^◌, ◌<◌, ◌≤◌, ◌↔◌, length, sum_by, pos, IfOk, IsTrue};
 ghost use Rattle.std.specs.List.{All};
+ghost use Rattle.cyc.specs.Frac.{AreEntries};
 ghost use Rattle.tspplain.specs.Bits.{bit_of};
 ghost use Rattle.tspplain.specs.Crossings.{crossing_of, crossing_weight, IsLeastCrossing, IsBetween, missed_of, IsMissedComb};
 
@@ -49,7 +50,8 @@ pub fn least_between(x: &Frac, all: u32, none: u32) -> u64
 
 /// The least crossing weight of all proper sets: of those without the last city, as their complements have the same.
 pub fn least_of_all(x: &Frac) -> u64
-    ensures { IsLeastCrossing x.now.entries (bit_of (x.now.n - 1)) (λ set. 0 < set) result }
+    ensures tried { IsLeastCrossing x.now.entries (bit_of (x.now.n - 1)) (λ set. 0 < set) result }
+    ensures proper { AreEntries x.now.n x.now.entries → x.now.n ≤ 32 → (set : ℕ) → 0 < set → set + 1 < 2 ^ x.now.n → result ≤ crossing_of x.now.entries set }
 {
     let mut least = u64::MAX;
     for set in 1..bit(x.n().saturating_sub(1)) {
