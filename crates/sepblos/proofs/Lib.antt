@@ -1,3 +1,4 @@
+pub mod MarkLemmas
 pub mod WeightLemmas
 pub mod ToothLemmas
 pub mod MadeLemmas

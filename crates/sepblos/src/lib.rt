@@ -13,12 +13,14 @@ ghost use Rattle.tspdef.specs.Cuts.{Cut as AnyCut};
 ghost use Rattle.sepblos.specs.Violated.{IsWorth};
 ghost use Rattle.sepblos.specs.Blossoms.{IsBlossom, AreBlossoms};
 
+mod marks;
 mod teeth;
 mod violated;
 
 use cutform::Cut;
 use cyc::{CitySet, Frac};
 use fracgraph::components;
+pub use marks::{is_marked, mark};
 use std::alloc::{AllocError, Global};
 pub use teeth::{NEAR_ONE, pair_set, set_of};
 pub use violated::violated_comb;
@@ -31,8 +33,8 @@ const MIDDLE: u32 = 0x400;
 /// The handles are the components of the pairs whose value is above 2^10 and below one length less 2^10 units. The teeth of
 /// a handle are the pairs with exactly one city in it and a value of one length less 2^10 units or more, in the order of the
 /// entries; where they are an odd number, three or more, and no two meet, the comb is a blossom (Edmonds 1965; this heuristic
-/// is that of Padberg and Rinaldi 1990). A handle of all cities has no teeth. An entry counts a step for each set of a comb,
-/// and no pair is a tooth of more than two handles: O(entries * n + n * n) for n cities.
+/// is that of Padberg and Rinaldi 1990). A handle of all cities has no teeth. Each handle takes a pass over
+/// the entries, and one more where it has a comb: O(entries * handles), beside what the components take.
 pub fn blossoms(alloc: Global, x: &Frac) -> Result<Vec<Cut>, AllocError>
     ensures blossoms { IfOk result (λ cuts. AreBlossoms x.now cuts.items) }
     ensures worth { IfOk result (λ cuts. All (IsWorth x.now) cuts.items) }

@@ -1,13 +1,14 @@
 //! Combs that values violate.
-ghost use Rattle.std.specs.Prelude.{◌≡◌, ◌<◌, ◌*◌, ◌^◌, ◌↔◌, IsTrue, IfOk, IfSome, MatchOption, pos, ◌-ℤ◌, ◌≤ℤ◌};
-ghost use Rattle.tspdef.specs.Cuts.{Cut as AnyCut, right_side, IsCut};
+ghost use Rattle.std.specs.Prelude.{◌≡◌, ◌<◌, ◌≤◌, ◌*◌, ◌^◌, ◌↔◌, IsTrue, IfOk, IfSome, MatchOption, pos, ◌-ℤ◌, ◌≤ℤ◌};
+ghost use Rattle.tspdef.specs.Cuts.{Cut as AnyCut, sets_of, right_side, coefficient, IsCut};
 ghost use Rattle.tspdef.specs.Bounds.{scale, violation};
-ghost use Rattle.cyc.specs.Frac.{value_of};
+ghost use Rattle.cyc.specs.Frac.{IsEntry, value_of};
 ghost use Rattle.cutform.specs.Cut.{cities_of_each};
-ghost use Rattle.sepblos.specs.Violated.{IsWorth, IsViolatedComb};
+ghost use Rattle.sepblos.specs.Violated.{IsWorth, IsViolatedComb, AreMarksOf};
 
+use crate::marks::{is_marked, mark};
 use cutform::{Cut, CutError};
-use cyc::{CitySet, Frac};
+use cyc::{CitySet, Entry, Frac};
 use std::alloc::{AllocError, Global};
 
 /// One length, in units.
@@ -18,7 +19,7 @@ const WORTH: u64 = 0x400;
 
 /// The comb of a handle and teeth, where they are one and the values violate it by 2^10 units or more.
 ///
-/// Each entry counts a step for each set.
+/// Each entry takes a step, and each with a city in a set one for each set: O(entries + cities of the sets * near pairs of a city * sets).
 pub fn violated_comb(
     alloc: Global,
     x: &Frac,
@@ -36,31 +37,57 @@ pub fn violated_comb(
         Err(CutError::NoMemory) => return Err(AllocError),
         Err(_) => return Ok(None),
     };
-    if !is_violated(x, &cut) {
+    if !is_violated(alloc, x, &cut)? {
         return Ok(None);
     }
     Ok(Some(cut))
 }
 
 /// Whether the values violate a cut by 2^10 units or more.
-fn is_violated(x: &Frac, cut: &Cut) -> bool
+fn is_violated(alloc: Global, x: &Frac, cut: &Cut) -> Result<bool, AllocError>
     requires { IsCut x.now.n cut.now }
-    ensures { IsTrue result ↔ (pos (2 ^ 10) ≤ℤ violation (value_of x.now.entries) x.now.n cut.now) }
+    ensures { IfOk result (λ b. IsTrue b ↔ (pos (2 ^ 10) ≤ℤ violation (value_of x.now.entries) x.now.n cut.now)) }
 {
     let right = u64::from(cut.rhs()) * SCALE;
-    right >= weight(x, cut) + WORTH
+    let marks = marks_of(alloc, x.n(), cut)?;
+    Ok(right >= weight(x, cut, &marks) + WORTH)
+}
+
+/// Which of n cities are in a set of the cut.
+fn marks_of(alloc: Global, n: u32, cut: &Cut) -> Result<Vec<bool>, AllocError>
+    ensures { IfOk result (λ marks. AreMarksOf n cut.now marks.items) }
+{
+    let mut marks = vec![in alloc; false; n as usize]?;
+    for set in cut.sets() {
+        mark(&mut marks, set.cities());
+    }
+    Ok(marks)
 }
 
 /// What the values add up to over the pairs, each as often as it crosses a set of the cut, in units.
-fn weight(x: &Frac, cut: &Cut) -> u64
-    requires { IsCut x.now.n cut.now }
+fn weight(x: &Frac, cut: &Cut, marks: &[bool]) -> u64
+    requires cut { IsCut x.now.n cut.now }
+    requires marks { AreMarksOf x.now.n cut.now marks.now }
     ensures missed { violation (value_of x.now.entries) x.now.n cut.now ≡ pos (scale * right_side cut.now) -ℤ pos result }
     ensures small { result < 2 ^ 54 }
 {
     let _n = x.n();
     let mut weight = 0;
     for entry in x.entries() {
-        weight += u64::from(entry.x) * u64::from(cut.coef(entry.u, entry.v));
+        weight += u64::from(entry.x) * u64::from(crossed(x, cut, marks, *entry));
     }
     weight
+}
+
+/// How many sets of the cut a pair crosses: none, where neither of its cities has a mark.
+fn crossed(_x: &Frac, cut: &Cut, marks: &[bool], entry: Entry) -> u32
+    requires marks { AreMarksOf _x.now.n cut.now marks.now }
+    requires entry { IsEntry _x.now.n entry }
+    ensures value { result ≡ coefficient (sets_of cut.now) entry.u entry.v }
+    ensures few { result ≤ 3 }
+{
+    if !is_marked(marks, entry.u) && !is_marked(marks, entry.v) {
+        return 0;
+    }
+    cut.coef(entry.u, entry.v)
 }

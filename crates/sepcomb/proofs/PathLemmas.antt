@@ -1,8 +1,6 @@
 -- Sets below a number, and paths step by step.
-use Rattle.std.proofs.Common.{◌≡◌, ℕ, zero, suc, ◌+◌, ◌-◌, ◌<◌, ◌≤◌, Bool, true, false, cond, ◌==◌, ◌&&◌, ◌||◌, List, [], ◌∷◌, ◌++◌, length, take, get_or, Option, Some, None, refl, sym, ap, subst, ◌∙◌, ⊎_elim, arith}
-use Rattle.std.proofs.lemmas.Bool.{cases_Bool, ne_eqb}
-use Rattle.std.proofs.lemmas.List.{take_more}
-use Rattle.cutform.proofs.SetLemmas.{has-push}
+use Rattle.std.proofs.Common.{◌≡◌, ℕ, zero, suc, ◌+◌, ◌-◌, ◌<◌, ◌≤◌, Bool, true, false, cond, ◌==◌, ◌&&◌, ◌||◌, List, [], ◌∷◌, ◌++◌, length, Option, Some, None, refl, sym, ap, subst, ◌∙◌, ⊎_elim, arith}
+use Rattle.std.proofs.lemmas.Bool.{cases_Bool}
 use Rattle.tspdef.specs.Sets.{has, RisesFrom, IsSet}
 use Rattle.cyc.specs.declared.frac.Entry.{Entry}
 use Rattle.cyc.specs.Frac.{Values}
@@ -60,17 +58,3 @@ path_more n step es h used path newest city l e =
     let s : n - step ≡ suc (n - (step + 1)) = omega arith in
     ap (λ k. path_from k es h used path newest) s
     ∙ ap (λ o. cond (is_next o) (path_from (n - (step + 1)) es h used (path ++ city_or_zero o ∷ []) (city_or_zero o)) path) e
-
--- ---- marks
-
--- of a city past the marks there is none
-pub marked-past : (old marks : List Bool) (xs : List ℕ) (i k : ℕ) → i < length xs → (get_or xs i 0 ≡ k → ⊥)
-    → get_or marks k false ≡ (get_or old k false || has (take i xs) k)
-    → get_or marks k false ≡ (get_or old k false || has (take (i + 1) xs) k)
-marked-past old marks xs i k h other e =
-    e ∙ ap (λ b. get_or old k false || b) (sym (ap (λ ys. has ys k) (take_more xs i 0 h) ∙ (has-push (take i xs) (get_or xs i 0) k
-    ∙ (ap (λ b. has (take i xs) k || b) (ne_eqb (get_or xs i 0) k other) ∙ or_none (has (take i xs) k)))))
-  where
-    or_none : (b : Bool) → (b || false) ≡ b
-    or_none true = refl
-    or_none false = refl

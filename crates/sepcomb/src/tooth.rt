@@ -1,10 +1,10 @@
 //! Teeth as sets.
-ghost use Rattle.std.specs.Prelude.{◌≡◌, ℕ, ◌<◌, ◌≤◌, false, ◌||◌, ◌∷◌, length, slice_index_or, IfOk};
+ghost use Rattle.std.specs.Prelude.{◌≡◌, ℕ, ◌<◌, ◌≤◌, false, ◌∷◌, slice_index_or, IfOk};
 ghost use Rattle.tspdef.specs.Sets.{has};
 ghost use Rattle.sepcomb.specs.Growth.{set_below};
 
 use cyc::{CitySet, Entry};
-use sepblos::set_of;
+use sepblos::{is_marked, mark, set_of};
 use std::alloc::{AllocError, Global};
 
 /// Whether a city is one of these.
@@ -44,22 +44,4 @@ fn marks_of(alloc: Global, n: u32, pair: Entry, path: &[u32]) -> Result<Vec<bool
     mark(&mut marks, &[pair.u, pair.v]);
     mark(&mut marks, path);
     Ok(marks)
-}
-
-fn is_marked(marks: &[bool], city: u32) -> bool
-    ensures { result ≡ slice_index_or marks.now city false }
-{
-    marks.get(city as usize).copied().unwrap_or(false)
-}
-
-/// Marks cities, but those of which there is no mark.
-fn mark(marks: &mut [bool], cities: &[u32])
-    ensures long { length marks.new ≡ length marks.old }
-    ensures marked { (c : ℕ) → c < length marks.old → slice_index_or marks.new c false ≡ (slice_index_or marks.old c false || has cities.now c) }
-{
-    for city in cities {
-        if (*city as usize) < marks.len() {
-            marks[*city as usize] = true;
-        }
-    }
 }

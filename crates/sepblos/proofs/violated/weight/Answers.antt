@@ -15,8 +15,8 @@ overflow_add-weight c =
     let n = c.n-n.ensures.value in
     let are = c.entries-entry-items.ensures in
     let small = entry_small x.n es c.loop-entry.entry-index (record { u = 0; v = 0; x = 0 }) (subst (AreEntries x.n) (sym are.value) are.entries) c.loop-entry-test.true in
-    let sum = weight_fits x.n x.entries c.loop-entry.entry-index c.args.cut.now (omega arith) are.entries c.requires in
-    let coef = c.coef.ensures.bound in
+    let sum = weight_fits x.n x.entries c.loop-entry.entry-index c.args.cut.now (omega arith) are.entries c.requires.cut in
+    let coef = c.crossed.ensures.few in
     let one = thrice c.from.result c.from-in-loop-entry.result 1073741824 (omega (arith, small, c.from.ensures)) (omega (arith, coef, c.from-in-loop-entry.ensures)) in
     omega (arith, sum, one, c.loop-entry.invariant)
 
@@ -25,7 +25,7 @@ returns-clause-small c =
     let x = c.args.x.now in
     let few = c.n-n.ensures.few in
     let n = c.n-n.ensures.value in
-    let sum = weight_fits x.n x.entries c.loop-entry.entry-index c.args.cut.now (omega arith) c.entries-entry-items.ensures.entries c.requires in
+    let sum = weight_fits x.n x.entries c.loop-entry.entry-index c.args.cut.now (omega arith) c.entries-entry-items.ensures.entries c.requires.cut in
     omega (arith, sum, c.loop-entry.invariant)
 
 pub returns-clause-missed : goal.returns-clause-missed

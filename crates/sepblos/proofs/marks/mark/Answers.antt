@@ -1,8 +1,8 @@
 use Rattle.std.proofs.Common.{◌∙◌, arith}
 use Rattle.cutform.proofs.SetLemmas.{marked-more}
-use Rattle.sepcomb.proofs.PathLemmas.{marked-past}
-use Rattle.sepcomb.proofs.tooth.mark.Goals as goal
-use Rattle.sepcomb.proofs.tooth.mark.Goals.{then-city-marks, else-city-marks}
+use Rattle.sepblos.proofs.MarkLemmas.{marked-past}
+use Rattle.sepblos.proofs.marks.mark.Goals as goal
+use Rattle.sepblos.proofs.marks.mark.Goals.{then-city-marks, else-city-marks}
 
 pub loop-city-preserved : goal.loop-city-preserved
 loop-city-preserved c =

@@ -1,6 +1,6 @@
 use Rattle.std.proofs.Common.{◌≡◌, ℕ, ◌<◌, ◌||◌, false, length, take, slice_index_or}
 use Rattle.tspdef.specs.Sets.{has}
-use Rattle.sepcomb.proofs.tooth.mark.Given as goal
+use Rattle.sepblos.proofs.marks.mark.Given as goal
 
 abbrev pub invariant-loop-city : goal.invariant-loop-city
 invariant-loop-city l = record {
