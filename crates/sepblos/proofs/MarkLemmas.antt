@@ -1,11 +1,11 @@
 -- Marks on the cities of sets.
-use Rattle.std.proofs.Common.{◌≡◌, ℕ, ◌+◌, ◌<◌, Bool, true, false, ◌||◌, List, [], ◌∷◌, ◌++◌, length, take, get_or, refl, sym, ap, ◌∙◌, arith}
+use Rattle.std.proofs.Common.{◌≡◌, ℕ, ◌+◌, ◌<◌, ◌≤◌, Bool, true, false, ◌||◌, List, [], ◌∷◌, ◌++◌, length, take, get_or, refl, sym, ap, ◌∙◌, arith}
 use Rattle.std.proofs.lemmas.Bool.{ne_eqb, or_parts}
 use Rattle.std.proofs.lemmas.List.{take_more}
 use Rattle.cutform.proofs.SetLemmas.{has-push, cities-more}
 use Rattle.cutform.specs.Cut.{cities_of_each}
 use Rattle.cyc.specs.CitySet.{Members}
-use Rattle.tspdef.specs.Sets.{has}
+use Rattle.tspdef.specs.Sets.{has, RisesFrom, IsSet}
 use Rattle.tspdef.specs.Cuts.{coefficient}
 use Rattle.sepblos.specs.Violated.{is_in_any}
 
@@ -42,3 +42,18 @@ crosses_none (s ∷ ss) u v a b =
     let q = or_parts (has s v) (is_in_any ss v) b in
     let rest = crosses_none ss u v p.1 q.1 in
     rw (p.0, q.0) (omega (arith, rest))
+
+-- a set of one city more, or none
+rises_push : (k m : ℕ) (xs : List ℕ) → m ≤ k → RisesFrom k m xs → RisesFrom (k + 1) m (xs ++ k ∷ [])
+rises_push k m [] le r = ((le, omega arith), tt)
+rises_push k m (x ∷ xs) le r = let a = r.0.0 in let b = r.0.1 in ((a, omega arith), rises_push k (x + 1) xs (omega arith) r.1)
+
+rises_wider : (k m : ℕ) (xs : List ℕ) → RisesFrom k m xs → RisesFrom (k + 1) m xs
+rises_wider k m [] r = tt
+rises_wider k m (x ∷ xs) r = let a = r.0.0 in let b = r.0.1 in ((a, omega arith), rises_wider k (x + 1) xs r.1)
+
+pub set_push : (k : ℕ) (xs : List ℕ) → IsSet k xs → IsSet (k + 1) (xs ++ k ∷ [])
+set_push k xs s = rises_push k 0 xs (omega arith) s
+
+pub set_wider : (k : ℕ) (xs : List ℕ) → IsSet k xs → IsSet (k + 1) xs
+set_wider k xs s = rises_wider k 0 xs s

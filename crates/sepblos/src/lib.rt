@@ -16,6 +16,7 @@ ghost use Rattle.sepblos.specs.Blossoms.{IsBlossom, AreBlossoms};
 mod marks;
 mod teeth;
 mod violated;
+mod wider;
 
 use cutform::Cut;
 use cyc::{CitySet, Frac};
@@ -24,6 +25,7 @@ pub use marks::{is_marked, mark};
 use std::alloc::{AllocError, Global};
 pub use teeth::{NEAR_ONE, pair_set, set_of};
 pub use violated::violated_comb;
+pub use wider::wider_blossoms;
 
 /// How far a value has to be from 0 and from one length to be in the middle, in units.
 const MIDDLE: u32 = 0x400;
