@@ -30,9 +30,9 @@ use std::alloc::{AllocError, Global};
 /// grows outside the handle, from its newest city to the lowest city that a pair near one length joins to it and that no
 /// tooth has, as long as there is one. The teeth of a comb are in the order in which they were taken.
 ///
-/// Each city that a tooth grows by takes a pass over the pairs near one length, and the test of a comb one over the entries for
-/// each of its sets: O(entries * s) for a comb whose sets have s cities, beside what the components take. Handles of fewer than
-/// three teeth take two passes.
+/// Each city that a tooth grows by takes a pass over the pairs near one length, and the test of a comb a step for each entry, and one
+/// for each set where a city of it is in a set: O(entries * handles + grown cities * near pairs), beside what the components take.
+/// Handles of fewer than three teeth take two passes.
 pub fn combs(alloc: Global, x: &Frac) -> Result<Vec<Cut>, AllocError>
     ensures combs { IfOk result (λ cuts. AreCombs x.now cuts.items) }
     ensures worth { IfOk result (λ cuts. All (IsWorth x.now) cuts.items) }
