@@ -13,13 +13,13 @@ cat >"$work/crates/flowbench/src/main.rt" <<'RT'
 //! flowbench drawn N: the least weight, the time of the least set alone, the sets of a sweep, the time of that sweep and, up to
 //! 1000, that of the plain flows, whose least is the same. All times are microseconds of the processor.
 //! flowbench rounds N: rounds, sets, the longest sweep, all sweeps, the longest search for blossoms and all of them, the same of
-//! combs, all solves, and how many blossoms and combs the last values have.
+//! blossoms of wider handles and of combs, all solves, and how many of the three the last values have.
 #![tactic(auto)]
 
 use anyhow::{Result, bail};
 use cyc::{CitySet, Entry, Frac};
 use maxflow::flow;
-use sepblos::blossoms;
+use sepblos::{blossoms, wider_blossoms};
 use sepcomb::combs;
 use sepsub::{least_set, sweep};
 use simplex::{Lp, LpAnswer, Row, Sense};
@@ -129,6 +129,16 @@ fn program(alloc: Global, n: u32) -> Result<Lp> {
     Ok(lp)
 }
 
+/// How many blossoms, blossoms of wider handles, or combs the values violate.
+fn search(alloc: Global, x: &Frac, kind: usize) -> Result<usize> {
+    let cuts = match kind {
+        0 => blossoms(alloc, x)?,
+        1 => wider_blossoms(alloc, x)?,
+        _ => combs(alloc, x)?,
+    };
+    Ok(cuts.len())
+}
+
 fn run_rounds(rt: HostRuntime, n: u32) -> Result<()> {
     let alloc = rt.alloc();
     let mut lp = program(alloc, n)?;
@@ -137,10 +147,9 @@ fn run_rounds(rt: HostRuntime, n: u32) -> Result<()> {
     let mut longest: u128 = 0;
     let mut sweeping: u128 = 0;
     let mut solving: u128 = 0;
-    let mut blooming: u128 = 0;
-    let mut combing: u128 = 0;
-    let mut longest_of: (u128, u128) = (0, 0);
-    let mut last = (0, 0);
+    let mut longest_of: [u128; 3] = [0, 0, 0];
+    let mut all_of: [u128; 3] = [0, 0, 0];
+    let mut last = [0, 0, 0];
     for _ in 0..200u32 {
         rounds = rounds.wrapping_add(1);
         let from = rt.thread_cpu_time()?;
@@ -154,16 +163,13 @@ fn run_rounds(rt: HostRuntime, n: u32) -> Result<()> {
         let micros = rt.thread_cpu_time()?.saturating_sub(from).as_micros();
         longest = longest.max(micros);
         sweeping = sweeping.wrapping_add(micros);
-        let from = rt.thread_cpu_time()?;
-        last.0 = blossoms(alloc, x)?.len();
-        let micros = rt.thread_cpu_time()?.saturating_sub(from).as_micros();
-        longest_of.0 = longest_of.0.max(micros);
-        blooming = blooming.wrapping_add(micros);
-        let from = rt.thread_cpu_time()?;
-        last.1 = combs(alloc, x)?.len();
-        let micros = rt.thread_cpu_time()?.saturating_sub(from).as_micros();
-        longest_of.1 = longest_of.1.max(micros);
-        combing = combing.wrapping_add(micros);
+        for kind in 0..3usize {
+            let from = rt.thread_cpu_time()?;
+            last[kind] = search(alloc, x, kind)?;
+            let micros = rt.thread_cpu_time()?.saturating_sub(from).as_micros();
+            longest_of[kind] = longest_of[kind].max(micros);
+            all_of[kind] = all_of[kind].wrapping_add(micros);
+        }
         found = found.wrapping_add(swept.sets.len());
         if swept.sets.is_empty() {
             break;
@@ -173,8 +179,8 @@ fn run_rounds(rt: HostRuntime, n: u32) -> Result<()> {
         }
     }
     println!(rt;
-        "{n} {rounds} {found} {longest} {sweeping} {} {blooming} {} {combing} {solving} {} {}",
-        longest_of.0, longest_of.1, last.0, last.1
+        "{n} {rounds} {found} {longest} {sweeping} {} {} {} {} {} {} {solving} {} {} {}",
+        longest_of[0], all_of[0], longest_of[1], all_of[1], longest_of[2], all_of[2], last[0], last[1], last[2]
     )?;
     Ok(())
 }
@@ -199,6 +205,6 @@ program=$work/crates/flowbench/out/flowbench
 columns='%6s %12s %12s %6s %12s %12s\n'
 printf "$columns" n least 'alone (us)' sets 'sweep (us)' 'plain (us)'
 for n in 200 500 1000 2000; do printf "$columns" $(${RUN:-} "$program" drawn $n); done
-columns='%6s %7s %6s %9s %9s %9s %9s %9s %9s %10s %8s %6s\n'
-printf "\n$columns" n rounds sets longest 'sweeps' longest 'blossoms' longest 'combs' 'solves us' blossoms combs
+columns='%6s %7s %6s %9s %9s %9s %9s %9s %9s %9s %9s %10s %8s %6s %6s\n'
+printf "\n$columns" n rounds sets longest 'sweeps' longest 'blossoms' longest 'wider' longest 'combs' 'solves us' blossoms wider combs
 for n in 100 200 500 1000; do printf "$columns" $(${RUN:-} "$program" rounds $n); done

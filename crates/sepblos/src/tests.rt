@@ -71,7 +71,7 @@ fn pairs_less_near_to_one_are_teeth_of_wider_blossoms(rt: HostRuntime) -> Result
     let x = prism(alloc, 0xf_c000)?;
     assert!(rt; blossoms(alloc, &x)?.is_empty());
     let cuts = wider_blossoms(alloc, &x)?;
-    assert_eq!(rt; cuts.len(), 8);
+    assert_eq!(rt; cuts.len(), 2);
     assert_eq!(rt; cuts[0].sets()[0].cities(), [0, 1, 2].as_slice());
     assert_eq!(rt; cuts[1].sets()[0].cities(), [3, 4, 5].as_slice());
     for sets in &sets_of(alloc, &cuts)? {

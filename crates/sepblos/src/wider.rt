@@ -27,37 +27,63 @@ const HALF: u32 = 0x8_0000;
 /// other side of the handle, by which nothing is lost where the values of its pairs add up to two. Nothing is said of what is found but that each
 /// blossom is violated: any search for cuts may miss some.
 ///
-/// Each handle takes a few passes over the entries: O(entries * handles).
+/// A handle that the margin before has too is not looked at again. Each other one takes a pass over the entries, and two more where two
+/// pairs of a half or more leave it: O(entries * handles).
 pub fn wider_blossoms(alloc: Global, x: &Frac) -> Result<Vec<Cut>, AllocError>
     ensures { IfOk result (λ cuts. All (IsWorth x.now) cuts.items) }
 {
+    let first = handles_within(alloc, x, 0x1_0000)?;
+    let second = handles_within(alloc, x, 0x2_0000)?;
+    let third = handles_within(alloc, x, 0x3_3333)?;
+    let fourth = handles_within(alloc, x, 0x4_cccd)?;
     let none = Vec::new(alloc);
-    let first = blossoms_within(alloc, x, 0x1_0000, none)?;
-    let second = blossoms_within(alloc, x, 0x2_0000, first)?;
-    let third = blossoms_within(alloc, x, 0x3_3333, second)?;
-    let fourth = blossoms_within(alloc, x, 0x4_cccd, third)?;
-    Ok(fourth)
+    let cuts = with_blossoms(alloc, x, &first, &[], none)?;
+    let cuts = with_blossoms(alloc, x, &second, &first, cuts)?;
+    let cuts = with_blossoms(alloc, x, &third, &second, cuts)?;
+    let cuts = with_blossoms(alloc, x, &fourth, &third, cuts)?;
+    Ok(cuts)
 }
 
-/// The blossoms of one margin, after others.
-fn blossoms_within(
+/// The components of the pairs whose value is farther than the margin from 0 and from one length.
+fn handles_within(alloc: Global, x: &Frac, margin: u32) -> Result<Vec<CitySet>, AllocError>
+    requires { margin ≤ 0x10_0000 }
+{
+    components(alloc, x, margin, ONE - margin)
+}
+
+/// The best blossoms of handles that were not seen before, after other cuts.
+fn with_blossoms(
     alloc: Global,
     x: &Frac,
-    margin: u32,
+    handles: &[CitySet],
+    seen: &[CitySet],
     others: Vec<Cut>,
 ) -> Result<Vec<Cut>, AllocError>
-    requires within { margin ≤ 0x10_0000 }
-    requires worth { All (IsWorth x.now) others.items }
+    requires { All (IsWorth x.now) others.items }
     ensures { IfOk result (λ cuts. All (IsWorth x.now) cuts.items) }
 {
-    let sets = components(alloc, x, margin, ONE - margin)?;
     let mut cuts = others;
-    for set in &sets {
-        if let Some(cut) = best_blossom(alloc, x, set)? {
+    for handle in handles {
+        if let Some(cut) = new_blossom(alloc, x, handle, seen)? {
             cuts.push(cut)?;
         }
     }
     Ok(cuts)
+}
+
+/// The best blossom of a handle that was not seen before.
+fn new_blossom(
+    alloc: Global,
+    x: &Frac,
+    handle: &CitySet,
+    seen: &[CitySet],
+) -> Result<Option<Cut>, AllocError>
+    ensures { IfOk result (λ c. IfSome c (IsWorth x.now)) }
+{
+    if seen.iter().any(|other| other.cities() == handle.cities()) {
+        return Ok(None);
+    }
+    best_blossom(alloc, x, handle)
 }
 
 /// The blossom of a handle that the values violate most, where they do.
@@ -67,7 +93,11 @@ fn best_blossom(alloc: Global, x: &Frac, handle: &CitySet) -> Result<Option<Cut>
     let n = x.n();
     let mut inside = vec![in alloc; false; n as usize]?;
     mark(&mut inside, handle.cities());
-    let pairs = best_teeth(alloc, x, &inside)?;
+    let across = look_across(x, &inside);
+    if across.heavy < 2 {
+        return Ok(None);
+    }
+    let pairs = teeth_but(alloc, x, &inside, across.turned())?;
     let kept = part(alloc, &pairs, &mut inside)?;
     let teeth = pair_sets(alloc, x, &pairs, &kept)?;
     if teeth.len() < 3 {
@@ -84,41 +114,47 @@ fn crosses(inside: &[bool], entry: Entry) -> bool {
     is_marked(inside, entry.u) != is_marked(inside, entry.v)
 }
 
-/// The odd set of crossing pairs for which the sum of their distances from one length, and of the others' from 0, is least.
-fn best_teeth(alloc: Global, x: &Frac, inside: &[bool]) -> Result<Vec<Entry>, AllocError>
-    ensures { IfOk result (λ teeth. All (IsEntry x.now.n) teeth.items) }
-{
-    let turned = if is_even(x, inside) {
-        nearest_to_half(x, inside)
-    } else {
-        None
-    };
-    teeth_but(alloc, x, inside, turned)
+/// The pairs that cross a handle, with what their best odd set needs.
+#[derive(Clone, Copy)]
+struct Across {
+    /// How many have a value of a half or more.
+    heavy: usize,
+    /// The one whose value is nearest to a half.
+    nearest: Option<Entry>,
 }
 
-/// Whether an even number of crossing pairs have a value of a half or more.
-fn is_even(x: &Frac, inside: &[bool]) -> bool {
-    let mut even = true;
-    for entry in x.entries() {
-        if entry.x >= HALF && crosses(inside, *entry) {
-            even = !even;
+impl Across {
+    /// The pair to be turned, so that the teeth are an odd number: for those the sum of the teeth's distances from one length, and of
+    /// the others' from 0, is least.
+    fn turned(self) -> Option<Entry> {
+        if self.heavy % 2 == 0 {
+            self.nearest
+        } else {
+            None
         }
     }
-    even
 }
 
-/// The crossing pair whose value is nearest to a half, if one crosses.
-fn nearest_to_half(x: &Frac, inside: &[bool]) -> Option<Entry> {
-    let mut nearest = None;
+/// Looks at the pairs that cross a handle.
+fn look_across(x: &Frac, inside: &[bool]) -> Across {
+    let mut across = Across {
+        heavy: 0,
+        nearest: None,
+    };
     let mut least = u32::MAX;
     for entry in x.entries() {
-        let far = entry.x.abs_diff(HALF);
-        if far < least && crosses(inside, *entry) {
-            least = far;
-            nearest = Some(*entry);
+        if crosses(inside, *entry) {
+            let far = entry.x.abs_diff(HALF);
+            if entry.x >= HALF {
+                across.heavy = across.heavy.saturating_add(1);
+            }
+            if far < least {
+                least = far;
+                across.nearest = Some(*entry);
+            }
         }
     }
-    nearest
+    across
 }
 
 /// Whether the entry is the one that is turned.
