@@ -2,7 +2,7 @@ use Rattle.std.proofs.Common.{◌≡◌, ℕ, zero, suc, ◌*◌, ◌<◌, ◌�
 use Rattle.std.proofs.lemmas.Bool.{cases_Bool, cases_lt, cond-true, cond-false}
 use Rattle.std.proofs.lemmas.Bool.Decides.{nat_tests}
 use Rattle.tspdef.specs.Distances.{Rule, euclidean, rounded_up, pseudo_euclidean, manhattan, maximum, is_enough, least}
-use Rattle.tspdef.specs.Laws.{RootsAreLeast}
+use Rattle.tspdef.specs.Laws.{RootsAreLeast, DistancesGoByRules}
 
 -- the least is n where it does not pass
 least_at_end : (passes : ℕ → Bool) (n : ℕ) → passes (least passes n) ≡ false → least passes n ≡ n
@@ -52,3 +52,10 @@ roots_are_least rule s = record {
   is_enough = least_passes (is_enough rule s) s (self_is_enough rule s);
   none_below = λ j h. none_below (is_enough rule s) s j h;
 }
+
+pub distances_go_by_rules : DistancesGoByRules
+distances_go_by_rules euclidean x y = roots_are_least euclidean _
+distances_go_by_rules rounded_up x y = roots_are_least rounded_up _
+distances_go_by_rules pseudo_euclidean x y = roots_are_least pseudo_euclidean _
+distances_go_by_rules manhattan x y = refl
+distances_go_by_rules maximum x y = refl

@@ -1,6 +1,6 @@
 -- The laws that everything rests on.
-use Rattle.std.specs.Prelude.{◌≡◌, ℕ, ◌+◌, ◌*◌, ◌%◌, ◌^◌, ◌<◌, ◌≤◌, Bool, false, List, pos, ◌≤ℤ◌, ◌<ℤ◌, Some}
-use Rattle.tspdef.specs.Distances.{Rule, is_enough, root as root_of, IsLeast}
+use Rattle.std.specs.Prelude.{◌≡◌, ℕ, ◌+◌, ◌*◌, ◌%◌, ◌^◌, ◌<◌, ◌≤◌, max, Bool, false, List, pos, ◌≤ℤ◌, ◌<ℤ◌, Some}
+use Rattle.tspdef.specs.Distances.{Rule, euclidean, rounded_up, pseudo_euclidean, manhattan, maximum, is_enough, root as root_of, squared, distance_apart, IsLeast}
 use Rattle.tspdef.specs.Sets.{has, IsProper}
 use Rattle.tspdef.specs.Tours.{steps, crossings, IsSameCycle, IsCanonicalForm, has_step}
 use Rattle.tspdef.specs.Instances.{Instance, IsTourOf, length_in}
@@ -14,6 +14,18 @@ use Rattle.tspdef.specs.Trees.{Tree, open_leaf, closed_leaf, edge_split, clique_
 -- The distance from a squared distance is the least number that is enough for it.
 abbrev pub RootsAreLeast : Type 0
 RootsAreLeast = (rule : Rule) (s : ℕ) → IsLeast (is_enough rule s) (root_of rule s)
+
+-- What the distance k of two points is that are x apart along one axis and y along the other: by EUC_2D, CEIL_2D and ATT the
+-- least whole number that is enough for the squared distance, by MAN_2D the sum of x and y, by MAX_2D the greater of them.
+abbrev pub IsDistanceApart : Rule → ℕ → ℕ → ℕ → Type 0
+IsDistanceApart euclidean x y k = IsLeast (is_enough euclidean (squared x y)) k
+IsDistanceApart rounded_up x y k = IsLeast (is_enough rounded_up (squared x y)) k
+IsDistanceApart pseudo_euclidean x y k = IsLeast (is_enough pseudo_euclidean (squared x y)) k
+IsDistanceApart manhattan x y k = k ≡ x + y
+IsDistanceApart maximum x y k = k ≡ max x y
+
+abbrev pub DistancesGoByRules : Type 0
+DistancesGoByRules = (rule : Rule) (x y : ℕ) → IsDistanceApart rule x y (distance_apart rule x y)
 
 -- A tour crosses a proper set an even number of times, and at least twice.
 abbrev pub CrossingsAreEven : Type 0

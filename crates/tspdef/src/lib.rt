@@ -3,11 +3,17 @@
 //! laws over them, each the contract of a function here. There is no program code in this crate.
 #![tactic(auto)]
 
-ghost use Rattle.tspdef.specs.Laws.{RootsAreLeast, CrossingsAreEven, ToursMeetCuts, CutsAreSmall, BoundIsBelow, FittingIsClosing, AcceptedIsOptimal, RootCovers, EdgeSplitCovers, CliqueSplitCovers, ClosingCovers, CoveredIsLeast, RaysClose, SameCycleIsSameTour, CanonicalFormExists, CanonicalFormIsOne};
+ghost use Rattle.tspdef.specs.Laws.{RootsAreLeast, DistancesGoByRules, CrossingsAreEven, ToursMeetCuts, CutsAreSmall, BoundIsBelow, FittingIsClosing, AcceptedIsOptimal, RootCovers, EdgeSplitCovers, CliqueSplitCovers, ClosingCovers, CoveredIsLeast, RaysClose, SameCycleIsSameTour, CanonicalFormExists, CanonicalFormIsOne};
 
-/// A distance is the least whole number that its rule takes for the squared distance.
+/// The root that a rule takes of a squared distance is the least whole number that is enough for it.
 pub fn roots_are_least()
     ensures { RootsAreLeast }
+{}
+
+/// A distance is what its rule of TSPLIB 95 says: by the three rules that take a root the least whole number that is enough for
+/// the squared distance, by the other two the sum and the greater of the distances along the axes.
+pub fn distances_go_by_rules()
+    ensures { DistancesGoByRules }
 {}
 
 /// Every tour crosses a proper set an even number of times, and at least twice (Dantzig, Fulkerson and Johnson).
