@@ -11,3 +11,6 @@ pub mod Values
 pub mod Bytes
 pub mod Forms
 pub mod Spellings
+pub mod Stands
+pub mod Faults
+pub mod Refusing

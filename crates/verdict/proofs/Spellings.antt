@@ -91,12 +91,12 @@ duals_apart : (d e : Duals) (xs ys : List Item) → length d.cities ≡ length e
 duals_apart d e xs ys k l m said =
     let shift : (a b c z : List Item) → (a ++ (b ++ c)) ++ z ≡ a ++ (b ++ (c ++ z)) = λ a b c z. append_assoc a (b ++ c) z ∙ ap (λ r. a ++ r) (append_assoc b c z) in
     let cities = mapped_apart city_item cities_apart d.cities e.cities (map cut_item d.cuts ++ (map condition_item d.conds ++ xs)) (map cut_item e.cuts ++ (map condition_item e.conds ++ ys)) k
-        (sym (shift (map city_item d.cities) (map cut_item d.cuts) (map condition_item d.conds) xs) ∙ said ∙ shift (map city_item e.cities) (map cut_item e.cuts) (map condition_item e.conds) ys) in
+    (sym (shift (map city_item d.cities) (map cut_item d.cuts) (map condition_item d.conds) xs) ∙ said ∙ shift (map city_item e.cities) (map cut_item e.cuts) (map condition_item e.conds) ys) in
     let cuts = mapped_apart cut_item cuts_apart d.cuts e.cuts (map condition_item d.conds ++ xs) (map condition_item e.conds ++ ys) l cities.1 in
     let conds = mapped_apart condition_item conditions_apart d.conds e.conds xs ys m cuts.1 in (
       ap (λ c. record { cities = c; cuts = d.cuts; conds = d.conds }) cities.0
-      ∙ ap (λ c. record { cities = e.cities; cuts = c; conds = d.conds }) cuts.0
-      ∙ ap (λ c. record { cities = e.cities; cuts = e.cuts; conds = c }) conds.0,
+          ∙ ap (λ c. record { cities = e.cities; cuts = c; conds = d.conds }) cuts.0
+          ∙ ap (λ c. record { cities = e.cities; cuts = e.cuts; conds = c }) conds.0,
       conds.1,
     )
 
@@ -154,7 +154,7 @@ lists_apart [] (d ∷ ds) xs ys l e = absurd (omega arith)
 lists_apart (c ∷ cs) [] xs ys l e = absurd (omega arith)
 lists_apart (c ∷ cs) (d ∷ ds) xs ys l e =
     let head = cut_apart c d (flat_map listed_items cs ++ xs) (flat_map listed_items ds ++ ys)
-        (sym (append_assoc (listed_items c) (flat_map listed_items cs) xs) ∙ e ∙ append_assoc (listed_items d) (flat_map listed_items ds) ys) in
+    (sym (append_assoc (listed_items c) (flat_map listed_items cs) xs) ∙ e ∙ append_assoc (listed_items d) (flat_map listed_items ds) ys) in
     let r = lists_apart cs ds xs ys (omega arith) head.1 in
     (ap (λ k. k ∷ cs) head.0 ∙ ap (λ k. d ∷ k) r.0, r.1)
 
@@ -166,13 +166,13 @@ values_apart p q xs ys e =
     let count : length p.cuts ≡ length q.cuts = cc in
     let tail : (flat_map listed_items p.cuts ++ tree_items p.tree) ++ xs ≡ (flat_map listed_items q.cuts ++ tree_items q.tree) ++ ys = cc in
     let cuts = lists_apart p.cuts q.cuts (tree_items p.tree ++ xs) (tree_items q.tree ++ ys) count
-        (sym (append_assoc (flat_map listed_items p.cuts) (tree_items p.tree) xs) ∙ tail ∙ append_assoc (flat_map listed_items q.cuts) (tree_items q.tree) ys) in
+    (sym (append_assoc (flat_map listed_items p.cuts) (tree_items p.tree) xs) ∙ tail ∙ append_assoc (flat_map listed_items q.cuts) (tree_items q.tree) ys) in
     let tree = trees_apart p.tree q.tree xs ys cuts.1 in (
       ap (λ k. record { cities = k; long = p.long; tour = p.tour; cuts = p.cuts; tree = p.tree }) cities
-      ∙ ap (λ k. record { cities = q.cities; long = k; tour = p.tour; cuts = p.cuts; tree = p.tree }) long
-      ∙ ap (λ k. record { cities = q.cities; long = q.long; tour = k; cuts = p.cuts; tree = p.tree }) tour
-      ∙ ap (λ k. record { cities = q.cities; long = q.long; tour = q.tour; cuts = k; tree = p.tree }) cuts.0
-      ∙ ap (λ k. record { cities = q.cities; long = q.long; tour = q.tour; cuts = q.cuts; tree = k }) tree.0,
+          ∙ ap (λ k. record { cities = q.cities; long = k; tour = p.tour; cuts = p.cuts; tree = p.tree }) long
+          ∙ ap (λ k. record { cities = q.cities; long = q.long; tour = k; cuts = p.cuts; tree = p.tree }) tour
+          ∙ ap (λ k. record { cities = q.cities; long = q.long; tour = q.tour; cuts = k; tree = p.tree }) cuts.0
+          ∙ ap (λ k. record { cities = q.cities; long = q.long; tour = q.tour; cuts = q.cuts; tree = k }) tree.0,
       tree.1,
     )
 

@@ -2,3 +2,5 @@ pub mod Forms
 pub mod Laws
 pub mod Decided
 pub mod Spellings
+pub mod Faults
+pub mod Refusals

@@ -4,6 +4,7 @@
 
 ghost use Rattle.verdict.specs.Laws.{LinesAreExact, YesIsAcceptedText, ReadsInPieces, ReadIsReadable};
 ghost use Rattle.verdict.specs.Spellings.{SpellingsAreApart, NoTextBeginsAnother, BytesHaveOneValue};
+ghost use Rattle.verdict.specs.Refusals.{RefusalsAreOfTheFront};
 ghost use Rattle.verdict.specs.Decided.{ToursAreDecided, CanonicalIsDecided, ToursFromOneAreDecided, ProperIsDecided, CutsAreDecided, CliquesAreDecided, ClosedLeavesAreDecided};
 
 /// Bytes are the line of an item within its bounds exactly where they are read as that item.
@@ -42,4 +43,10 @@ pub fn spellings_are_apart()
     ensures apart { SpellingsAreApart }
     ensures begins { NoTextBeginsAnother }
     ensures one { BytesHaveOneValue }
+{}
+
+/// A refusal is told once a line is read: every text that begins with the lines up to it has the same refusal, fewer lines hold none,
+/// and what is wrong with the line is what the refusal says. An end that comes too early and too many bytes stand apart.
+pub fn refusals_are_of_the_front()
+    ensures { RefusalsAreOfTheFront }
 {}
