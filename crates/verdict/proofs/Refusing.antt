@@ -60,6 +60,11 @@ more_of_line m b bs f = ap (λ x. b ∷ first_lines (cond x m (suc m)) bs) f
 behind_of_line : (m b : ℕ) (bs : List ℕ) → (b == 10) ≡ false → line_behind (suc m) (b ∷ bs) ≡ line_behind (suc m) bs
 behind_of_line m b bs f = ap (λ x. line_behind (cond x m (suc m)) bs) f
 
+lines_then : (m : ℕ) (bs : List ℕ) → (rest : List ℕ) × (bs ≡ first_lines m bs ++ rest)
+lines_then zero bs = (bs, refl)
+lines_then (suc m) [] = ([], refl)
+lines_then (suc m) (b ∷ bs) = let w = lines_then (cond (b == 10) m (suc m)) bs in (w.0, ap (λ x. b ∷ x) w.1)
+
 this_line : (b : ℕ) (bs : List ℕ) → (b == 10) ≡ false → line_behind zero (b ∷ bs) ≡ b ∷ line_behind zero bs
 this_line b bs f = ap (λ x. cond x [] (b ∷ line_behind zero bs)) f
 
@@ -452,6 +457,7 @@ told i k at bytes h t =
     let count = before.1.number in (
       m,
       record {
+        same = λ other e. let w = lines_then m other in ap (verdict i) (w.1 ∙ ap (λ x. x ++ w.0) e) ∙ always w.0;
         always = always;
         never = λ more l a. let yes_too = (yes_is_accepted_text i (first_lines m bytes ++ more) l h).1 a in let never : no k at ≡ yes l = sym (always more) ∙ yes_too in cc;
         first = λ q l. let u = t.fronts q (omega arith) in front_nothing i bytes q u.0 u.1;

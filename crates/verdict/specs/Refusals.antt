@@ -35,7 +35,8 @@ IsRefusedFrom i front at = (more : List ℕ) (k line : ℕ) → verdict i (front
 
 -- The refusal k at line `at` is told once line m is read.
 pub record IsTold (i : Instance) (bytes : List ℕ) (k at m : ℕ) : Type 0 where
-  -- each text that begins with the first m lines has it, and none of them is accepted
+  -- each text with the same first m lines has it, each that begins with these bytes has it, and none of them is accepted
+  pub same : (other : List ℕ) → first_lines m other ≡ first_lines m bytes → verdict i other ≡ no k at
   pub always : (more : List ℕ) → verdict i (first_lines m bytes ++ more) ≡ no k at
   pub never : (more : List ℕ) (l : ℕ) → ¬ IsAcceptedText i (first_lines m bytes ++ more) l
   -- in fewer lines nothing is refused

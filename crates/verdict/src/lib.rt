@@ -5,6 +5,7 @@
 ghost use Rattle.verdict.specs.Laws.{LinesAreExact, YesIsAcceptedText, ReadsInPieces, ReadIsReadable};
 ghost use Rattle.verdict.specs.Spellings.{SpellingsAreApart, NoTextBeginsAnother, BytesHaveOneValue};
 ghost use Rattle.verdict.specs.Refusals.{RefusalsAreOfTheFront};
+ghost use Rattle.verdict.specs.WrongValues.{RefusedValuesAreWrong, RefusedLinesAreWrong};
 ghost use Rattle.verdict.specs.Decided.{ToursAreDecided, CanonicalIsDecided, ToursFromOneAreDecided, ProperIsDecided, CutsAreDecided, CliquesAreDecided, ClosedLeavesAreDecided};
 
 /// Bytes are the line of an item within its bounds exactly where they are read as that item.
@@ -49,4 +50,10 @@ pub fn spellings_are_apart()
 /// and what is wrong with the line is what the refusal says. An end that comes too early and too many bytes stand apart.
 pub fn refusals_are_of_the_front()
     ensures { RefusalsAreOfTheFront }
+{}
+
+/// Each value of the grammar whose text is refused, or begins with lines that are refused, has what the refusal is told for.
+pub fn refused_values_are_wrong()
+    ensures values { RefusedValuesAreWrong }
+    ensures lines { RefusedLinesAreWrong }
 {}
