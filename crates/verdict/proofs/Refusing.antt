@@ -491,12 +491,43 @@ long i k at bytes t =
       nothing = ⊎_elim (λ a. inl (e ∙ a ∙ ap (no 1) number)) (λ b. inr (b.0, e ∙ b.1)) (end_is t.to);
     }
 
+-- as many lines as asked for, where there are so many
+ended_if : (q : ℕ) (bs : List ℕ) (b : Bool) → suc q ≤ cond b 1 0 + ended_lines bs → ((p : ℕ) → p ≤ ended_lines bs → ended_lines (first_lines p bs) ≡ p) → cond b 1 0 + ended_lines (first_lines (cond b q (suc q)) bs) ≡ suc q
+ended_if q bs true l more = let r = more q (omega arith) in omega arith
+ended_if q bs false l more = let r = more (suc q) (omega arith) in omega arith
+
+ended_first : (q : ℕ) (bs : List ℕ) → q ≤ ended_lines bs → ended_lines (first_lines q bs) ≡ q
+ended_first zero bs l = refl
+ended_first (suc q) [] l = absurd (omega arith)
+ended_first (suc q) (b ∷ bs) l = ended_if q bs (b == 10) l (λ p m. ended_first p bs m)
+
+-- what is read through was read through before
+was_read : (j : Tests) (x : Read) (rest : List ℕ) (t : Reading) → bytes_on j x rest ≡ reads t → (u : Reading) × (x ≡ reads u)
+was_read j (reads u) rest t e = (u, refl)
+was_read j (stops k at) rest t e = cc
+
+read_nothing : (i : Instance) (bytes : List ℕ) (t : Reading) (q : ℕ) → bytes_on (verifier i) (reads start) bytes ≡ reads t → q ≤ ended_lines bytes → NothingIsRefused i q bytes
+read_nothing i bytes t q e l =
+    let w = lines_then q bytes in
+    let u = was_read (verifier i) (bytes_on (verifier i) (reads start) (first_lines q bytes)) w.0 t
+    (sym (reads_in_pieces (verifier i) (reads start) (first_lines q bytes) w.0) ∙ sym (ap (bytes_on (verifier i) (reads start)) w.1) ∙ e) in
+    let v : verdict i (first_lines q bytes) ≡ end_of u.0 = ap verdict_at_end u.1 in
+    let number = (goes (verifier i) start u.0 (first_lines q bytes) u.1).number in
+    let count = ended_first q bytes l in
+    let line : u.0.at ≡ q + 1 = omega arith in
+    ⊎_elim (λ a. inl (v ∙ a ∙ ap (no 1) line)) (λ b. inr (b.0, v ∙ b.1)) (end_is u.0)
+
 early : (i : Instance) (k at : ℕ) (bytes : List ℕ) (t : Reading) → bytes_on (verifier i) (reads start) bytes ≡ reads t → end_of t ≡ no k at → EndsEarly i bytes k at
 early i k at bytes t e h =
     let z = end_refusal t k at h in
     let line = z.1 in
     let g = (goes (verifier i) start t bytes e).number in
-    record { refusal = z.0; line = omega arith; later = refused_from i bytes at t e (omega arith) }
+    record {
+      refusal = z.0;
+      line = omega arith;
+      first = λ q l. read_nothing i bytes t q e (omega arith);
+      later = refused_from i bytes at t e (omega arith);
+    }
 
 by_reading : (i : Instance) (k at : ℕ) (bytes : List ℕ) (x : Read) → i.n < 2 ^ 32 → bytes_on (verifier i) (reads start) bytes ≡ x → verdict_at_end x ≡ no k at → ((m : ℕ) × IsTold i bytes k at m) ⊎ EndsEarly i bytes k at ⊎ IsTooLong i bytes k at
 by_reading i k at bytes (stops l from) h e v =

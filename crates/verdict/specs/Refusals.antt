@@ -57,6 +57,7 @@ pub record IsTold (i : Instance) (bytes : List ℕ) (k at m : ℕ) : Type 0 wher
 pub record EndsEarly (i : Instance) (bytes : List ℕ) (k at : ℕ) : Type 0 where
   pub refusal : k ≡ 1
   pub line : at ≡ ended_lines bytes + 1
+  pub first : (q : ℕ) → q < at → NothingIsRefused i q bytes
   pub later : IsRefusedFrom i bytes at
 
 -- There are more than 2^60 bytes: in the first 2^60 nothing is refused, and `at` is the line that is reached with them.
