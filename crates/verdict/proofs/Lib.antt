@@ -14,3 +14,4 @@ pub mod Spellings
 pub mod Stands
 pub mod Faults
 pub mod Refusing
+pub mod WrongValues

@@ -7,9 +7,9 @@ use Rattle.certdef.specs.Items.{Item, line, longest, in_bounds, fits, item_of}
 use Rattle.certdef.specs.Tests.{Tests, verifier}
 use Rattle.certdef.specs.Verdicts.{Stage, wants_title, wants_size, wants_length, wants_tour, wants_count, wants_cut, wants_handle, wants_tooth, wants_trees, wants_duals, yes, no, Outcome, go, refused, line_step, is_end, at_end}
 use Rattle.certdef.specs.Bytes.{Reading, Read, reads, stops, start, line_on, byte_on, bytes_on, end_of, verdict_at_end, verdict}
-use Rattle.certdef.specs.Accepted.{most_bytes}
-use Rattle.verdict.specs.Faults.{Fault}
-use Rattle.verdict.specs.Refusals.{first_lines, line_behind, ended_lines, NothingIsRefused, IsRefusedFrom, IsTold, EndsEarly, IsTooLong, RefusalsAreOfTheFront}
+use Rattle.certdef.specs.Accepted.{IsAcceptedText, most_bytes}
+use Rattle.verdict.specs.Faults.{Fault, not_a_proof, other_size, not_a_tour, wrong_length, set_of_all, not_a_comb, decided_edge, weak_leaf, open_leaf, trailing}
+use Rattle.verdict.specs.Refusals.{first_lines, line_behind, ended_lines, NothingIsRefused, IsRefusedFrom, IsTold, EndsEarly, IsTooLong, RefusalsAreOfTheFront, TrailingIsBehindAccepted}
 use Rattle.verdict.proofs.Lines.{item_said, no_item}
 use Rattle.verdict.proofs.CutSteps.{append_nil}
 use Rattle.verdict.proofs.Bytes.{reads_in_pieces, yes_is_accepted_text}
@@ -59,6 +59,11 @@ more_of_line m b bs f = ap (λ x. b ∷ first_lines (cond x m (suc m)) bs) f
 
 behind_of_line : (m b : ℕ) (bs : List ℕ) → (b == 10) ≡ false → line_behind (suc m) (b ∷ bs) ≡ line_behind (suc m) bs
 behind_of_line m b bs f = ap (λ x. line_behind (cond x m (suc m)) bs) f
+
+lines_then : (m : ℕ) (bs : List ℕ) → (rest : List ℕ) × (bs ≡ first_lines m bs ++ rest)
+lines_then zero bs = (bs, refl)
+lines_then (suc m) [] = ([], refl)
+lines_then (suc m) (b ∷ bs) = let w = lines_then (cond (b == 10) m (suc m)) bs in (w.0, ap (λ x. b ∷ x) w.1)
 
 this_line : (b : ℕ) (bs : List ℕ) → (b == 10) ≡ false → line_behind zero (b ∷ bs) ≡ b ∷ line_behind zero bs
 this_line b bs f = ap (λ x. cond x [] (b ∷ line_behind zero bs)) f
@@ -452,6 +457,7 @@ told i k at bytes h t =
     let count = before.1.number in (
       m,
       record {
+        same = λ other e. let w = lines_then m other in ap (verdict i) (w.1 ∙ ap (λ x. x ++ w.0) e) ∙ always w.0;
         always = always;
         never = λ more l a. let yes_too = (yes_is_accepted_text i (first_lines m bytes ++ more) l h).1 a in let never : no k at ≡ yes l = sym (always more) ∙ yes_too in cc;
         first = λ q l. let u = t.fronts q (omega arith) in front_nothing i bytes q u.0 u.1;
@@ -460,6 +466,7 @@ told i k at bytes h t =
         line = ⊎_elim (λ e. inl (e ∙ line)) (λ w. inr w) p.line;
         later = refused_from i (first_lines (at - 1) bytes) at before.0 before.1.comes (omega arith);
         before = t.to;
+        clean = front_begun (verifier i) bytes t.lines t.to t.front;
         stands = subst (λ q. bytes_on (verifier i) (reads start) (first_lines q bytes) ≡ reads t.to) lines t.front.comes;
         fault = subst (λ q. Fault i t.to.stage m (item_of i.n (line_behind q bytes)) k at) lines
             (subst (λ w. Fault i t.to.stage m (item_of i.n (w ++ line_behind t.lines bytes)) k at) (front_begun (verifier i) bytes t.lines t.to t.front)
@@ -484,12 +491,43 @@ long i k at bytes t =
       nothing = ⊎_elim (λ a. inl (e ∙ a ∙ ap (no 1) number)) (λ b. inr (b.0, e ∙ b.1)) (end_is t.to);
     }
 
+-- as many lines as asked for, where there are so many
+ended_if : (q : ℕ) (bs : List ℕ) (b : Bool) → suc q ≤ cond b 1 0 + ended_lines bs → ((p : ℕ) → p ≤ ended_lines bs → ended_lines (first_lines p bs) ≡ p) → cond b 1 0 + ended_lines (first_lines (cond b q (suc q)) bs) ≡ suc q
+ended_if q bs true l more = let r = more q (omega arith) in omega arith
+ended_if q bs false l more = let r = more (suc q) (omega arith) in omega arith
+
+ended_first : (q : ℕ) (bs : List ℕ) → q ≤ ended_lines bs → ended_lines (first_lines q bs) ≡ q
+ended_first zero bs l = refl
+ended_first (suc q) [] l = absurd (omega arith)
+ended_first (suc q) (b ∷ bs) l = ended_if q bs (b == 10) l (λ p m. ended_first p bs m)
+
+-- what is read through was read through before
+was_read : (j : Tests) (x : Read) (rest : List ℕ) (t : Reading) → bytes_on j x rest ≡ reads t → (u : Reading) × (x ≡ reads u)
+was_read j (reads u) rest t e = (u, refl)
+was_read j (stops k at) rest t e = cc
+
+read_nothing : (i : Instance) (bytes : List ℕ) (t : Reading) (q : ℕ) → bytes_on (verifier i) (reads start) bytes ≡ reads t → q ≤ ended_lines bytes → NothingIsRefused i q bytes
+read_nothing i bytes t q e l =
+    let w = lines_then q bytes in
+    let u = was_read (verifier i) (bytes_on (verifier i) (reads start) (first_lines q bytes)) w.0 t
+    (sym (reads_in_pieces (verifier i) (reads start) (first_lines q bytes) w.0) ∙ sym (ap (bytes_on (verifier i) (reads start)) w.1) ∙ e) in
+    let v : verdict i (first_lines q bytes) ≡ end_of u.0 = ap verdict_at_end u.1 in
+    let number = (goes (verifier i) start u.0 (first_lines q bytes) u.1).number in
+    let count = ended_first q bytes l in
+    let line : u.0.at ≡ q + 1 = omega arith in
+    ⊎_elim (λ a. inl (v ∙ a ∙ ap (no 1) line)) (λ b. inr (b.0, v ∙ b.1)) (end_is u.0)
+
 early : (i : Instance) (k at : ℕ) (bytes : List ℕ) (t : Reading) → bytes_on (verifier i) (reads start) bytes ≡ reads t → end_of t ≡ no k at → EndsEarly i bytes k at
 early i k at bytes t e h =
     let z = end_refusal t k at h in
     let line = z.1 in
     let g = (goes (verifier i) start t bytes e).number in
-    record { refusal = z.0; line = omega arith; later = refused_from i bytes at t e (omega arith) }
+    record {
+      refusal = z.0;
+      line = omega arith;
+      first = λ q l. read_nothing i bytes t q e (omega arith);
+      later = refused_from i bytes at t e (omega arith);
+    }
 
 by_reading : (i : Instance) (k at : ℕ) (bytes : List ℕ) (x : Read) → i.n < 2 ^ 32 → bytes_on (verifier i) (reads start) bytes ≡ x → verdict_at_end x ≡ no k at → ((m : ℕ) × IsTold i bytes k at m) ⊎ EndsEarly i bytes k at ⊎ IsTooLong i bytes k at
 by_reading i k at bytes (stops l from) h e v =
@@ -499,3 +537,48 @@ by_reading i k at bytes (reads t) h e v = inr (inl (early i k at bytes t e v))
 
 pub refusals_are_of_the_front : RefusalsAreOfTheFront
 refusals_are_of_the_front i bytes k at h e = by_reading i k at bytes (bytes_on (verifier i) (reads start) bytes) h refl e
+
+-- ---- bytes behind the tree
+
+end_yes : (at : ℕ) (s : Stage) → is_end s ≡ true → (l : ℕ) × (at_end at s ≡ yes l)
+end_yes at (wants_trees h []) e = (h.long, refl)
+end_yes at wants_title e = cc
+end_yes at wants_size e = cc
+end_yes at wants_length e = cc
+end_yes at (wants_tour l) e = cc
+end_yes at (wants_count l) e = cc
+end_yes at (wants_cut h c) e = cc
+end_yes at (wants_handle h c from t) e = cc
+end_yes at (wants_tooth h c from t s ts) e = cc
+end_yes at (wants_trees h (p ∷ ps)) e = cc
+end_yes at (wants_duals h ps o a b c) e = cc
+
+-- only an end is refused as 9
+only_end : (i : Instance) (s : Stage) (m : ℕ) (x : Option Item) (at : ℕ) → Fault i s m x 9 at → (is_end s ≡ true) × (at ≡ m)
+only_end i s m x at (not_a_proof f) = let k = f.refusal in absurd (omega arith)
+only_end i s m x at (other_size f) = let k = f.refusal in absurd (omega arith)
+only_end i s m x at (not_a_tour f) = let k = f.refusal in absurd (omega arith)
+only_end i s m x at (wrong_length f) = let k = f.refusal in absurd (omega arith)
+only_end i s m x at (set_of_all f) = let k = f.refusal in absurd (omega arith)
+only_end i s m x at (not_a_comb f) = let k = f.refusal in absurd (omega arith)
+only_end i s m x at (decided_edge f) = let k = f.refusal in absurd (omega arith)
+only_end i s m x at (weak_leaf f) = let k = f.refusal in absurd (omega arith)
+only_end i s m x at (open_leaf f) = let k = f.refusal in absurd (omega arith)
+only_end i s m x at (trailing f) = (f.behind, f.line)
+
+behind_accepted : (i : Instance) (bytes : List ℕ) (at m : ℕ) → i.n < 2 ^ 32 → IsTold i bytes 9 at m → (l : ℕ) × IsAcceptedText i (first_lines (at - 1) bytes) l
+behind_accepted i bytes at m h t =
+    let f = only_end i t.before.stage m (item_of i.n (line_behind (m - 1) bytes)) at t.fault in
+    let y = end_yes t.before.at t.before.stage f.0 in
+    let ends : verdict i (first_lines (m - 1) bytes) ≡ yes y.0 = ap verdict_at_end t.stands ∙ ap (λ w. cond (nat_lt 0 (length w)) (no 1 t.before.at) (at_end t.before.at t.before.stage)) t.clean ∙ y.1 in
+    let same : verdict i (first_lines (at - 1) bytes) ≡ yes y.0 = ap (λ q. verdict i (first_lines (q - 1) bytes)) f.1 ∙ ends in
+    (y.0, (yes_is_accepted_text i (first_lines (at - 1) bytes) y.0 h).0 same)
+
+pub trailing_is_behind_accepted : TrailingIsBehindAccepted
+trailing_is_behind_accepted i bytes at h e = ⊎_elim
+    (λ t. behind_accepted i bytes at t.0 h t.1)
+    (λ r. ⊎_elim
+    (λ t. let k = t.refusal in absurd (omega arith))
+    (λ t. let k = t.refusal in absurd (omega arith))
+    r)
+    (refusals_are_of_the_front i bytes 9 at h e)

@@ -4,3 +4,4 @@ pub mod Decided
 pub mod Spellings
 pub mod Faults
 pub mod Refusals
+pub mod WrongValues

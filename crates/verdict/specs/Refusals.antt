@@ -35,7 +35,8 @@ IsRefusedFrom i front at = (more : List ℕ) (k line : ℕ) → verdict i (front
 
 -- The refusal k at line `at` is told once line m is read.
 pub record IsTold (i : Instance) (bytes : List ℕ) (k at m : ℕ) : Type 0 where
-  -- each text that begins with the first m lines has it, and none of them is accepted
+  -- each text with the same first m lines has it, each that begins with these bytes has it, and none of them is accepted
+  pub same : (other : List ℕ) → first_lines m other ≡ first_lines m bytes → verdict i other ≡ no k at
   pub always : (more : List ℕ) → verdict i (first_lines m bytes ++ more) ≡ no k at
   pub never : (more : List ℕ) (l : ℕ) → ¬ IsAcceptedText i (first_lines m bytes ++ more) l
   -- in fewer lines nothing is refused
@@ -46,8 +47,9 @@ pub record IsTold (i : Instance) (bytes : List ℕ) (k at m : ℕ) : Type 0 wher
   pub line : (at ≡ m) ⊎ (k ≡ 5) ⊎ (k ≡ 7)
   -- the lines before it begin no text that is refused before it
   pub later : IsRefusedFrom i (first_lines (at - 1) bytes) at
-  -- the reading stands before line m, and what is wrong there
+  -- how the reading stands where line m begins, and what is wrong with the line
   pub before : Reading
+  pub clean : before.begun ≡ []
   pub stands : bytes_on (verifier i) (reads start) (first_lines (m - 1) bytes) ≡ reads before
   pub fault : Fault i before.stage m (item_of i.n (line_behind (m - 1) bytes)) k at
 
@@ -55,6 +57,7 @@ pub record IsTold (i : Instance) (bytes : List ℕ) (k at m : ℕ) : Type 0 wher
 pub record EndsEarly (i : Instance) (bytes : List ℕ) (k at : ℕ) : Type 0 where
   pub refusal : k ≡ 1
   pub line : at ≡ ended_lines bytes + 1
+  pub first : (q : ℕ) → q < at → NothingIsRefused i q bytes
   pub later : IsRefusedFrom i bytes at
 
 -- There are more than 2^60 bytes: in the first 2^60 nothing is refused, and `at` is the line that is reached with them.
@@ -72,3 +75,8 @@ pub record IsTooLong (i : Instance) (bytes : List ℕ) (k at : ℕ) : Type 0 whe
 abbrev pub RefusalsAreOfTheFront : Type 0
 RefusalsAreOfTheFront = (i : Instance) (bytes : List ℕ) (k at : ℕ) → i.n < 2 ^ 32 → verdict i bytes ≡ no k at
     → ((m : ℕ) × IsTold i bytes k at m) ⊎ EndsEarly i bytes k at ⊎ IsTooLong i bytes k at
+
+-- Bytes behind a tree stand behind the lines of an accepted text.
+abbrev pub TrailingIsBehindAccepted : Type 0
+TrailingIsBehindAccepted = (i : Instance) (bytes : List ℕ) (at : ℕ) → i.n < 2 ^ 32 → verdict i bytes ≡ no 9 at
+    → (l : ℕ) × IsAcceptedText i (first_lines (at - 1) bytes) l

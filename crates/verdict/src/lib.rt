@@ -1,10 +1,12 @@
-//! The laws of proof texts: lines are read as what they are spelled from, the verdict is yes exactly on accepted texts, bytes may
-//! come in pieces, and a reader of the form alone gives exactly the items of a value. There is no program code in this crate.
+//! The laws of proof texts: lines are read as what they are spelled from, no text begins another, the verdict is yes exactly on
+//! accepted texts, a refusal is of the front of a text and says what is wrong there, bytes may come in pieces, and a reader of the
+//! form alone gives exactly the items of a value. There is no program code in this crate.
 #![tactic(auto)]
 
 ghost use Rattle.verdict.specs.Laws.{LinesAreExact, YesIsAcceptedText, ReadsInPieces, ReadIsReadable};
 ghost use Rattle.verdict.specs.Spellings.{SpellingsAreApart, NoTextBeginsAnother, BytesHaveOneValue};
-ghost use Rattle.verdict.specs.Refusals.{RefusalsAreOfTheFront};
+ghost use Rattle.verdict.specs.Refusals.{RefusalsAreOfTheFront, TrailingIsBehindAccepted};
+ghost use Rattle.verdict.specs.WrongValues.{RefusedValuesAreWrong, RefusedLinesAreWrong};
 ghost use Rattle.verdict.specs.Decided.{ToursAreDecided, CanonicalIsDecided, ToursFromOneAreDecided, ProperIsDecided, CutsAreDecided, CliquesAreDecided, ClosedLeavesAreDecided};
 
 /// Bytes are the line of an item within its bounds exactly where they are read as that item.
@@ -46,7 +48,15 @@ pub fn spellings_are_apart()
 {}
 
 /// A refusal is told once a line is read: every text that begins with the lines up to it has the same refusal, fewer lines hold none,
-/// and what is wrong with the line is what the refusal says. An end that comes too early and too many bytes stand apart.
+/// and what is wrong with the line is what the refusal says. An end that comes too early and too many bytes stand apart. Bytes behind a
+/// tree stand behind an accepted text.
 pub fn refusals_are_of_the_front()
-    ensures { RefusalsAreOfTheFront }
+    ensures told { RefusalsAreOfTheFront }
+    ensures trailing { TrailingIsBehindAccepted }
+{}
+
+/// Each value of the grammar whose text is refused, or begins with lines that are refused, has what the refusal is told for.
+pub fn refused_values_are_wrong()
+    ensures values { RefusedValuesAreWrong }
+    ensures lines { RefusedLinesAreWrong }
 {}
