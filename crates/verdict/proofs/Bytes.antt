@@ -9,7 +9,7 @@ use Rattle.certdef.specs.Verdicts.{Stage, wants_title, wants_size, wants_length,
 use Rattle.certdef.specs.Bytes.{Reading, Read, reads, stops, start, line_on, byte_on, bytes_on, verdict_at_end}
 use Rattle.certdef.specs.Accepted.{most_bytes}
 use Rattle.verdict.proofs.Lines.{InLine, item_said, line_plain, small_if}
-use Rattle.certdef.specs.Laws.{YesIsAcceptedText, ReadsInPieces}
+use Rattle.verdict.specs.Laws.{YesIsAcceptedText, ReadsInPieces}
 use Rattle.verdict.proofs.Values.{yes_is_accepted}
 
 pub reads_in_pieces : ReadsInPieces
@@ -131,7 +131,7 @@ text_length : (w : List ℕ) (ws : List (List ℕ)) → length (text_of (w ∷ w
 text_length w ws = length-append (ended w) (text_of ws) ∙ ap (λ k. k + length (text_of ws)) (length_more w 10)
 
 -- a reading at the start of a line, unless the text was refused
-abbrev begins : ℕ → ℕ → Outcome → Read
+abbrev pub begins : ℕ → ℕ → Outcome → Read
 begins at read (go s) = reads (record { at = at; read = read; stage = s; begun = [] })
 begins at read (refused k from) = stops k from
 
@@ -139,7 +139,7 @@ line_begins : (at read : ℕ) (o : Outcome) → line_on at read o ≡ begins (at
 line_begins at read (go s) = refl
 line_begins at read (refused k from) = refl
 
-lines_bytes : (j : Tests) (l at read : ℕ) (o : Outcome) (ls : List (List ℕ)) → j.n < 2 ^ 32 → read + length (text_of ls) ≤ most_bytes → run j at o (map (item_of j.n) ls) ≡ yes l → verdict_at_end (bytes_on j (begins at read o) (text_of ls)) ≡ yes l
+pub lines_bytes : (j : Tests) (l at read : ℕ) (o : Outcome) (ls : List (List ℕ)) → j.n < 2 ^ 32 → read + length (text_of ls) ≤ most_bytes → run j at o (map (item_of j.n) ls) ≡ yes l → verdict_at_end (bytes_on j (begins at read o) (text_of ls)) ≡ yes l
 lines_bytes j l at read (refused k from) ls h f e = cc
 lines_bytes j l at read (go s) [] h f e = e
 lines_bytes j l at read (go s) (w ∷ ws) h f e = ⊎_elim

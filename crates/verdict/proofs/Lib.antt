@@ -10,3 +10,8 @@ pub mod Decisions
 pub mod Values
 pub mod Bytes
 pub mod Forms
+pub mod Spellings
+pub mod Stands
+pub mod Faults
+pub mod Refusing
+pub mod WrongValues

@@ -1,0 +1,7 @@
+pub mod Forms
+pub mod Laws
+pub mod Decided
+pub mod Spellings
+pub mod Faults
+pub mod Refusals
+pub mod WrongValues

@@ -1,0 +1,45 @@
+-- The law of refusals above the machine: what is wrong with each value whose text is refused.
+use Rattle.std.specs.Prelude.{◌≡◌, ◌≢◌, ℕ, ◌-◌, ◌^◌, ◌<◌, ◌≤◌, false, List, [], ◌∷◌, ◌++◌, length, ◌<ℤ◌}
+use Rattle.std.specs.List.{AllByRecursion}
+use Rattle.tspdef.specs.Sets.{IsProper}
+use Rattle.tspdef.specs.Instances.{Instance, length_in}
+use Rattle.tspdef.specs.Cuts.{IsCut}
+use Rattle.tspdef.specs.Paths.{Condition, absent, present, two, four, is_decided}
+use Rattle.tspdef.specs.Bounds.{bound, needed}
+use Rattle.certdef.specs.Proofs.{Listed, Written, open_leaf, closed_leaf, edge_split, clique_split, Proof, text}
+use Rattle.certdef.specs.Accepted.{from_zero, cuts_of, closing_of, HasForm, most_bytes}
+use Rattle.certdef.specs.Verdicts.{no}
+use Rattle.certdef.specs.Bytes.{verdict}
+use Rattle.verdict.specs.Decided.{IsTourFromOne}
+use Rattle.verdict.specs.Refusals.{first_lines, IsTold}
+
+-- The tree has nothing that refusal k is told for: 5 a split by a set of all cities, 6 a split by a decided pair, 7 a leaf whose
+-- bound is too weak for the length, 8 an open leaf.
+abbrev pub IsRightTree : Instance → (k long : ℕ) → List Listed → List Condition → Written → Type 0
+IsRightTree i k l cs path open_leaf = k ≢ 8
+IsRightTree i k l cs path (closed_leaf d) = k ≡ 7 → needed l <ℤ bound i path (closing_of i.n (cuts_of i.n cs) d)
+IsRightTree i k l cs path (edge_split u v a b) =
+    (k ≡ 6 → is_decided path (u - 1) (v - 1) ≡ false)
+    × (IsRightTree i k l cs (path ++ absent (u - 1) (v - 1) ∷ []) a × IsRightTree i k l cs (path ++ present (u - 1) (v - 1) ∷ []) b)
+IsRightTree i k l cs path (clique_split s a b) =
+    (k ≡ 5 → IsProper i.n (from_zero s))
+    × (IsRightTree i k l cs (path ++ two (from_zero s) ∷ []) a × IsRightTree i k l cs (path ++ four (from_zero s) ∷ []) b)
+
+-- The value has nothing that refusal k is told for: 2 another number of cities, 3 no canonical tour of them, 4 another length
+-- than the tour's, 5 a cut that is none; or a fault of the tree. Nothing of a value is refused as 1, 9 or 10.
+pub record IsRight (i : Instance) (k : ℕ) (p : Proof) : Type 0 where
+  pub size : k ≡ 2 → p.cities ≡ i.n
+  pub tour : k ≡ 3 → IsTourFromOne i.n p.tour
+  pub long : k ≡ 4 → length_in i (from_zero p.tour) ≡ p.long
+  pub cuts : k ≡ 5 → AllByRecursion (IsCut i.n) (cuts_of i.n p.cuts)
+  pub tree : IsRightTree i k p.long p.cuts [] p.tree
+
+-- Where the text of a value of the grammar, of at most 2^60 bytes, is refused, the value has what the refusal is told for.
+abbrev pub RefusedValuesAreWrong : Type 0
+RefusedValuesAreWrong = (i : Instance) (p : Proof) (k at : ℕ) → i.n < 2 ^ 32 → HasForm i.n p → length (text p) ≤ most_bytes
+    → verdict i (text p) ≡ no k at → ¬ IsRight i k p
+
+-- So has each value of the grammar whose text begins with lines that are refused; with 1 there is no such value.
+abbrev pub RefusedLinesAreWrong : Type 0
+RefusedLinesAreWrong = (i : Instance) (bytes : List ℕ) (k at m : ℕ) → i.n < 2 ^ 32 → IsTold i bytes k at m
+    → (p : Proof) (more : List ℕ) → HasForm i.n p → length (text p) ≤ most_bytes → text p ≡ first_lines m bytes ++ more → ¬ IsRight i k p
