@@ -2,8 +2,10 @@
 //! 1954; Applegate, Bixby, Chvátal and Cook, "The Traveling Salesman Problem", 2006).
 //!
 //! - [`LpWorker`] is the worker, [`work_by_lp`] its work on a node: it closes the node, or splits it and says why.
+//! - [`Worker`], [`Work`], [`Why`], [`Effort`] and [`PlainWorker`] are those of the crate `worker`.
 #![tactic(auto)]
 
+mod efforts;
 mod light;
 mod missed;
 mod offers;
@@ -14,6 +16,7 @@ mod walk;
 mod work;
 
 pub use work::{LpWorker, work_by_lp};
+pub use worker::{Effort, PlainWorker, Why, Work, Worker};
 
 #[cfg(test)]
 mod tests;

@@ -1,12 +1,12 @@
 //! The end of the work on a node: a tour is offered, and the node is closed, or split with a reason.
-ghost use Rattle.std.specs.Prelude.{◌≡◌, ◌<◌, ◌<ℤ◌, ◌≤ℤ◌, true, false, IfOk};
+ghost use Rattle.std.specs.Prelude.{◌≡◌, ◌<◌, ◌↔◌, ◌<ℤ◌, ◌≤ℤ◌, true, false, IfOk, IsSome};
 ghost use Rattle.tspdef.specs.Paths.{DecidesAll};
 ghost use Rattle.tspdef.specs.Bounds as bounds;
 ghost use Rattle.branchx.specs.Branch.{IsSplit};
 ghost use Rattle.treebook.specs.Tree.{branch_of};
 ghost use Rattle.nodelp.specs.Node.{IsClean};
 ghost use Rattle.worker.specs.Splits.{IsNeededSplit, IsOpenQuestion, IsEdge};
-ghost use Rattle.worker.specs.Works.{IsWork, SplitsOnly};
+ghost use Rattle.worker.specs.Works.{IsWork, SplitsOnly, IsSplitting};
 ghost use Rattle.grunt.specs.Whys.{IsExplained};
 ghost use Rattle.grunt.specs.Rounds.{IsLook, HasEnded};
 
@@ -21,7 +21,7 @@ use pricer::{Report, needed};
 use simplex::{Lp, LpAnswer};
 use std::alloc::{AllocError, Global};
 use tspinst::Instance;
-use worker::{Work, zeros_that_close};
+use worker::{Effort, Work, zeros_that_close};
 
 /// Closes a node by its newest duals, where these suffice; else offers the tour to which the values lead, and closes the
 /// node for that one, or splits it.
@@ -43,6 +43,7 @@ pub(crate) fn settle(
     ensures splits { IfOk result (λ w. SplitsOnly IsNeededSplit instance.now path.now.conditions best w.report) }
     ensures work { IfOk result (IsWork instance.now path.now.conditions best) }
     ensures explained { IfOk result (IsExplained instance.now path.now.conditions best) }
+    ensures why { IfOk result (λ w. IsSome w.why ↔ IsSplitting w.report) }
 {
     if suffices(&newest, best) {
         return Ok(Work::closed(None, newest.closing));
@@ -59,6 +60,10 @@ pub(crate) fn settle(
                 tour,
                 report: Report::Split(branch),
                 why: Some(reason_of(node)),
+                effort: Effort {
+                    split: 1,
+                    ..Effort::none()
+                },
             })
         }
     }

@@ -121,6 +121,9 @@ fn the_square_is_closed_at_its_root(rt: HostRuntime) -> Result<(), Fail> {
     assert!(rt; closes_above(&rt, alloc, &instance, &work, 40_894_464));
     assert!(rt; work.tour.is_none());
     assert!(rt; work.why.is_none());
+    assert_eq!(rt; work.effort.closed, 1);
+    assert_eq!(rt; work.effort.split, 0);
+    assert_eq!(rt; work.effort.programs, 1);
     Ok(())
 }
 
@@ -130,6 +133,7 @@ fn groups_are_closed_by_a_subtour_cut(rt: HostRuntime) -> Result<(), Fail> {
     let instance = told(alloc, GROUPS)?;
     let work = root_work(&rt, alloc, &LpWorker, &instance, 24)?;
     assert!(rt; closes_above(&rt, alloc, &instance, &work, 23 << 20));
+    assert!(rt; 0 < work.effort.subtours);
     Ok(())
 }
 
@@ -141,6 +145,7 @@ fn the_prism_is_closed_by_a_comb(rt: HostRuntime) -> Result<(), Fail> {
     let work = root_work(&rt, alloc, &LpWorker, &instance, 4)?;
     assert!(rt; closes_above(&rt, alloc, &instance, &work, 3 << 20));
     assert!(rt; closes_by_a_comb(&work));
+    assert!(rt; 0 < work.effort.blossoms);
     assert!(rt; work.tour.is_none());
     Ok(())
 }
@@ -161,6 +166,11 @@ fn petersens_graph_is_split_with_a_reason(rt: HostRuntime) -> Result<(), Fail> {
     let instance = told(alloc, PETERSEN)?;
     let work = root_work(&rt, alloc, &LpWorker, &instance, 11)?;
     assert!(rt; is_checked(&work));
+    assert_eq!(rt; work.effort.closed, 0);
+    assert_eq!(rt; work.effort.split, 1);
+    assert!(rt; 0 < work.effort.rounds);
+    assert_eq!(rt; work.effort.most_rounds, work.effort.rounds);
+    assert!(rt; 0 < work.effort.columns);
     assert!(rt; matches!(&work.report, Report::Split(_)));
     Ok(())
 }

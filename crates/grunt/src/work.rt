@@ -1,9 +1,10 @@
 //! The worker with a linear program.
-ghost use Rattle.std.specs.Prelude.{◌≡◌, ◌^◌, ◌<◌, ◌≤◌, true, length, IfOk};
+ghost use Rattle.std.specs.Prelude.{◌≡◌, ◌^◌, ◌<◌, ◌≤◌, ◌↔◌, true, IfOk, IsSome};
 ghost use Rattle.worker.specs.Splits.{IsNeededSplit, needed_splits_stay};
-ghost use Rattle.worker.specs.Works.{IsWork, SplitsOnly, cliques};
+ghost use Rattle.worker.specs.Works.{IsWork, SplitsOnly, IsSplitting, cliques};
 ghost use Rattle.grunt.specs.Whys.{IsExplained};
 
+use crate::efforts::effort_of;
 use crate::rounds::rounds;
 use crate::splits::settle;
 use branchx::Path;
@@ -11,7 +12,7 @@ use neigh::Neigh;
 use nodelp::NodeLp;
 use std::alloc::{AllocError, Global};
 use tspinst::Instance;
-use worker::{Work, Worker, first_look};
+use worker::{Work, Worker, first_look, paths_are_short};
 
 /// The worker that closes a node by the duals of a linear program, and splits it only where that is solved to the end.
 pub struct LpWorker;
@@ -31,7 +32,16 @@ impl Worker for LpWorker {
         path: &Path,
         best: u64,
         seed: u64,
-    ) -> Result<Work, AllocError> {
+    ) -> Result<Work, AllocError>
+        requires cities { path.now.n ≡ instance.now.n }
+        requires lists { near.now.n ≡ instance.now.n }
+        requires few_cliques { cliques path.now.conditions ≤ 2 ^ 21 }
+        requires short { best < 2 ^ 42 }
+        ensures splits { IfOk result (λ w. SplitsOnly IsNeededSplit instance.now path.now.conditions best w.report) }
+        ensures work { IfOk result (IsWork instance.now path.now.conditions best) }
+        ensures explained { IfOk result (IsExplained instance.now path.now.conditions best) }
+        ensures why { IfOk result (λ w. IsSome w.why ↔ IsSplitting w.report) }
+    {
         work_by_lp(alloc, instance, near, path, best, seed)
     }
 }
@@ -56,17 +66,23 @@ pub fn work_by_lp(
 ) -> Result<Work, AllocError>
     requires cities { path.now.n ≡ instance.now.n }
     requires lists { near.now.n ≡ instance.now.n }
-    requires few { length path.now.conditions ≤ 2 ^ 22 }
     requires few_cliques { cliques path.now.conditions ≤ 2 ^ 21 }
     requires short { best < 2 ^ 42 }
     ensures splits { IfOk result (λ w. SplitsOnly IsNeededSplit instance.now path.now.conditions best w.report) }
     ensures work { IfOk result (IsWork instance.now path.now.conditions best) }
     ensures explained { IfOk result (IsExplained instance.now path.now.conditions best) }
+    ensures why { IfOk result (λ w. IsSome w.why ↔ IsSplitting w.report) }
 {
+    paths_are_short();
+    let _n = instance.n();
+    let _conditions = path.conditions();
     if let Some(work) = first_look(alloc, instance, path, best)? {
         return Ok(work);
     }
     let mut node = NodeLp::new(alloc, instance, near, path)?;
     let newest = rounds(alloc, instance, path, best, &mut node)?;
-    settle(alloc, instance, near, path, best, seed, node, newest)
+    let programs = effort_of(&node);
+    let mut work = settle(alloc, instance, near, path, best, seed, node, newest)?;
+    work.effort = work.effort.and(programs);
+    Ok(work)
 }

@@ -1,7 +1,8 @@
 //! The search.
 ghost use Rattle.std.specs.Prelude.{◌≡◌, ℕ, ◌^◌, ◌<◌, ◌≤◌, true, length, min, IfOk, IfSome, OnOk};
 ghost use Rattle.tspdef.specs.Instances.{length_in};
-ghost use Rattle.treebook.specs.Tables.{IsOpen, MaySplit, path_at, fresh, closed_at, split_at};
+ghost use Rattle.tspdef.specs.Trees.{settled};
+ghost use Rattle.treebook.specs.Tables.{IsOpen, MaySplit, path_at, fresh, closed_at, split_at, tree_of};
 ghost use Rattle.treebook.specs.Tree.{branch_of};
 ghost use Rattle.opening.specs.Openings.{IsOpening, opening_length};
 ghost use Rattle.worker.specs.Works.{Closes, IsReport, best_after};
@@ -16,19 +17,20 @@ use pricer::{Closing, Report};
 use std::alloc::{AllocError, Global};
 use treebook::{Tree, tables_are_sound, tables_are_trees, tables_grow};
 use tspinst::Instance;
-use worker::{Work, Worker};
+use worker::{Effort, Work, Worker};
 
-/// A search: its tree, and the best tour so far with its length.
+/// A search: its tree, the best tour so far with its length, and what the work on its nodes cost.
 #[derive(Drop)]
 pub struct Found {
     pub tree: Tree,
     pub best: Tour,
     pub length: u64,
+    pub effort: Effort,
 }
 
 /// Starts with an opening's tour as the best one, and lets a sure worker work on open nodes, the one with the least number
-/// first, until none is open or `budget` nodes are settled. A tour that the worker finds is kept where it is shorter. A node's
-/// path costs O(depth).
+/// first, until none is open or `budget` nodes are settled, that is, closed or split. A tour that the worker finds is kept where
+/// it is shorter. A node's path costs O(depth).
 pub fn search<W: Worker>(
     alloc: Global,
     instance: &Instance,
@@ -41,6 +43,8 @@ pub fn search<W: Worker>(
     requires opening { IsOpening instance.now opening }
     requires few { budget ≤ 65536 }
     ensures found { IfOk result (IsFound W.splits instance.now) }
+    ensures no_longer { IfOk result (λ s. s.length ≤ length_in instance.now opening.tour) }
+    ensures within_budget { IfOk result (λ s. settled (tree_of s.tree.nodes) ≤ budget) }
     ensures settled { IfOk result (λ s. (count : ℕ) × (count ≤ budget) × HasSettled count s) }
     ensures ended { IfOk result (HasEnded budget) }
 {
@@ -56,6 +60,7 @@ fn start(alloc: Global, instance: &Instance, best: Tour) -> Result<Found, AllocE
     ensures found { IfOk result (IsSearch instance.now) }
     ensures fresh { IfOk result (λ s. s.tree.nodes ≡ fresh) }
     ensures settled { IfOk result (HasSettled 0) }
+    ensures long { IfOk result (λ s. s.length ≡ length_in instance.now best) }
 {
     let _whole = best.cities();
     let length = instance.length(&best);
@@ -63,6 +68,7 @@ fn start(alloc: Global, instance: &Instance, best: Tour) -> Result<Found, AllocE
         tree: Tree::new(alloc, instance.n())?,
         best,
         length,
+        effort: Effort::none(),
     })
 }
 
@@ -81,6 +87,8 @@ fn work<W: Worker>(
     requires found { IsFound W.splits instance.now found.old }
     requires fresh { HasSettled 0 found.old }
     ensures found { OnOk result (IsFound W.splits instance.now found.new) }
+    ensures no_longer { OnOk result (found.new.length ≤ found.old.length) }
+    ensures within_budget { OnOk result (settled (tree_of found.new.tree.nodes) ≤ budget) }
     ensures settled { OnOk result ((count : ℕ) × (count ≤ budget) × HasSettled count found.new) }
     ensures ended { OnOk result (HasEnded budget found.new) }
 {
@@ -110,6 +118,7 @@ fn settle<W: Worker>(
     requires few { length found.old.tree.nodes ≤ 131073 }
     ensures found { OnOk result (IsSearch instance.now found.new) }
     ensures splits { OnOk result (IsSplitBy W.splits instance.now found.old → IsSplitBy W.splits instance.now found.new) }
+    ensures no_longer { OnOk result (found.new.length ≤ found.old.length) }
     ensures settled { OnOk result (HasOneMore found.old found.new) }
 {
     tables_grow();
@@ -117,18 +126,32 @@ fn settle<W: Worker>(
     let _n = (instance.n(), found.tree.n());
     let path = found.tree.path_of(alloc, node)?;
     let work = worker.work(alloc, instance, near, &path, found.length, seed)?;
-    let (tour, report) = parts(work);
+    let (tour, report, effort) = parts(work);
     offer_found(instance, found, tour);
-    take(alloc, instance, found, node, report)
+    take(alloc, instance, found, node, report)?;
+    add_effort(found, effort);
+    Ok(())
 }
 
-/// The tour and the report of work.
-fn parts(work: Work) -> (Option<Tour>, Report)
+/// Adds what the work on a node cost.
+fn add_effort(found: &mut Found, effort: Effort)
+    ensures { found.new ≡ record found.old { effort = found.new.effort } }
+{
+    found.effort = found.effort.and(effort);
+}
+
+/// The tour and the report of work, and what it cost.
+fn parts(work: Work) -> (Option<Tour>, Report, Effort)
     ensures tour { result.0 ≡ work.tour }
     ensures report { result.1 ≡ work.report }
 {
-    let Work { tour, report, .. } = work;
-    (tour, report)
+    let Work {
+        tour,
+        report,
+        effort,
+        ..
+    } = work;
+    (tour, report, effort)
 }
 
 /// Keeps a tour that was found, if there is one, where it is shorter than the best so far.
@@ -158,6 +181,7 @@ fn take(
     requires report { IsReport instance.now (path_at found.old.tree.nodes node) found.old.length report }
     ensures found { OnOk result (IsSearch instance.now found.new) }
     ensures takes { OnOk result (Takes report node found.old.tree.nodes found.new.tree.nodes) }
+    ensures same { OnOk result (found.new.length ≡ found.old.length) }
     ensures settled { OnOk result (HasOneMore found.old found.new) }
 {
     match report {
@@ -176,6 +200,7 @@ fn close(instance: &Instance, found: &mut Found, node: u32, closing: Closing)
     requires closes { Closes instance.now (path_at found.old.tree.nodes node) found.old.length closing }
     ensures found { IsSearch instance.now found.new }
     ensures takes { found.new.tree.nodes ≡ closed_at found.old.tree.nodes node closing }
+    ensures same { found.new.length ≡ found.old.length }
     ensures settled { HasOneMore found.old found.new }
 {
     tables_grow();
@@ -198,6 +223,7 @@ fn split(
     requires branch { MaySplit instance.now.n (path_at found.old.tree.nodes node) (branch_of branch) }
     ensures found { OnOk result (IsSearch instance.now found.new) }
     ensures takes { OnOk result (found.new.tree.nodes ≡ split_at found.old.tree.nodes node (branch_of branch)) }
+    ensures same { OnOk result (found.new.length ≡ found.old.length) }
     ensures settled { OnOk result (HasOneMore found.old found.new) }
 {
     tables_grow();

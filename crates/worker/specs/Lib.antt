@@ -1,2 +1,3 @@
+pub mod Efforts
 pub mod Splits
 pub mod Works

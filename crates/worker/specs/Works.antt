@@ -1,7 +1,7 @@
 -- What work on a node gives.
-use Rattle.std.specs.Prelude.{ℕ, suc, List, [], ◌∷◌, ◌<ℤ◌, min, Option, Some, None, IfSome}
+use Rattle.std.specs.Prelude.{ℕ, suc, ◌+◌, ◌-◌, ◌*◌, ◌^◌, ◌≤◌, List, [], ◌∷◌, length, ◌<ℤ◌, min, Option, Some, None, IfSome}
 use Rattle.tspdef.specs.Instances.{Instance, IsTourOf, length_in}
-use Rattle.tspdef.specs.Paths.{Condition, absent, present, two, four}
+use Rattle.tspdef.specs.Paths.{Condition, absent, present, two, four, IsPath}
 use Rattle.tspdef.specs.Closings.{Closing, Fits}
 use Rattle.tspdef.specs.Bounds.{bound, needed}
 use Rattle.branchx.specs.Branch.{IsSplit}
@@ -18,6 +18,11 @@ cliques (absent u v ∷ path) = cliques path
 cliques (present u v ∷ path) = cliques path
 cliques (two s ∷ path) = suc (cliques path)
 cliques (four s ∷ path) = suc (cliques path)
+
+-- A path decides no pair twice, so beside its conditions on sets it has at most one for each of the n (n - 1) / 2 pairs.
+pub record PathsAreShort : Type 0 where
+  pub pairs : (n : ℕ) (path : List Condition) → IsPath n path → 2 * length path ≤ 2 * cliques path + n * (n - 1)
+  pub few : (n : ℕ) (path : List Condition) → n ≤ 2000 → IsPath n path → cliques path ≤ 2 ^ 21 → length path ≤ 2 ^ 22
 
 -- the lesser of the best length and that of a tour, if there is one
 abbrev pub best_after : Instance → ℕ → Option (List ℕ) → ℕ

@@ -8,6 +8,7 @@ ghost use Rattle.treebook.specs.Tree.{branch_of};
 ghost use Rattle.worker.specs.Splits.{IsOpenQuestion, IsNeededSplit, IsEdge, needed_splits_stay};
 ghost use Rattle.worker.specs.Works.{IsWork, SplitsOnly, IsSplitting, best_after};
 
+use crate::effort::Effort;
 use crate::work::Work;
 use crate::workers::Worker;
 use crate::zeros::zeros_that_close;
@@ -37,13 +38,20 @@ impl Worker for PlainWorker {
         path: &Path,
         best: u64,
         _seed: u64,
-    ) -> Result<Work, AllocError> {
+    ) -> Result<Work, AllocError>
+        requires cities { path.now.n ≡ instance.now.n }
+        requires short { best < 2 ^ 42 }
+        ensures splits { IfOk result (λ w. SplitsOnly IsNeededSplit instance.now path.now.conditions best w.report) }
+        ensures work { IfOk result (IsWork instance.now path.now.conditions best) }
+        ensures exactly { IfOk result (λ w. IsSplitting w.report ↔ IsOpenQuestion instance.now best path.now.conditions) }
+        ensures why { IfOk result (λ w. w.why ≡ None) }
+    {
         work_plainly(alloc, instance, path, best)
     }
 }
 
 /// Closes a node where zero duals or a ray do, and else splits it: exactly where zero duals do not close it and a pair is
-/// undecided.
+/// undecided. It gives no reason.
 pub fn work_plainly(
     alloc: Global,
     instance: &Instance,
@@ -55,6 +63,7 @@ pub fn work_plainly(
     ensures splits { IfOk result (λ w. SplitsOnly IsNeededSplit instance.now path.now.conditions best w.report) }
     ensures work { IfOk result (IsWork instance.now path.now.conditions best) }
     ensures exactly { IfOk result (λ w. IsSplitting w.report ↔ IsOpenQuestion instance.now best path.now.conditions) }
+    ensures why { IfOk result (λ w. w.why ≡ None) }
 {
     if let Some(work) = first_look(alloc, instance, path, best)? {
         return Ok(work);
@@ -64,6 +73,10 @@ pub fn work_plainly(
         tour: None,
         report: Report::Split(branch),
         why: None,
+        effort: Effort {
+            split: 1,
+            ..Effort::none()
+        },
     })
 }
 

@@ -2,6 +2,7 @@
 ghost use Rattle.std.specs.Prelude.{◌≡◌, None};
 ghost use Rattle.pricer.specs.declared.closing.Report as reports;
 
+use crate::effort::Effort;
 use cyc::Tour;
 use pricer::{Closing, Report};
 use simplex::Lp;
@@ -17,12 +18,14 @@ pub enum Why {
     Checked(Lp),
 }
 
-/// A report on a node, with a tour that was found on the way, and the reason of a split where a linear program has one.
+/// A report on a node, with a tour that was found on the way, the reason of a split where a linear program has one, and what
+/// the work cost.
 #[derive(Drop)]
 pub struct Work {
     pub tour: Option<Tour>,
     pub report: Report,
     pub why: Option<Why>,
+    pub effort: Effort,
 }
 
 impl Work {
@@ -36,6 +39,10 @@ impl Work {
             tour,
             report: Report::Closed(closing),
             why: None,
+            effort: Effort {
+                closed: 1,
+                ..Effort::none()
+            },
         }
     }
 }

@@ -1,5 +1,5 @@
 //! Who works on nodes.
-ghost use Rattle.std.specs.Prelude.{◌≡◌, ℕ, ◌^◌, ◌<◌, ◌≤◌, Bool, true, List, length, IfOk};
+ghost use Rattle.std.specs.Prelude.{◌≡◌, ℕ, ◌^◌, ◌<◌, ◌≤◌, Bool, true, List, IfOk};
 ghost use Rattle.worker.specs.Splits.{Splits, StayForMore};
 ghost use Rattle.worker.specs.Works.{IsWork, SplitsOnly, cliques};
 
@@ -23,7 +23,7 @@ pub trait Worker {
 
     /// Works on the node with this path, where the best tour so far has this length. The same seed gives the same work.
     ///
-    /// A path has at most 2^22 conditions, 2^21 of them on sets: one that decides every pair of 2,000 cities has room for as many sets.
+    /// A path has at most 2^21 conditions on sets. On pairs it has at most one for each of the n (n - 1) / 2.
     fn work(
         &self,
         alloc: Global,
@@ -35,7 +35,6 @@ pub trait Worker {
     ) -> Result<Work, AllocError>
         requires cities { path.now.n ≡ instance.now.n }
         requires lists { near.now.n ≡ instance.now.n }
-        requires few { length path.now.conditions ≤ 2 ^ 22 }
         requires few_cliques { cliques path.now.conditions ≤ 2 ^ 21 }
         requires short { best < 2 ^ 42 }
         ensures splits { IfOk result (λ w. SplitsOnly splits instance.now path.now.conditions best w.report) }

@@ -1,5 +1,4 @@
 use Rattle.std.proofs.Common.{◌≡◌, ℕ, List, sym, ◌∙◌, ap, subst, arith}
-use Rattle.std.proofs.lemmas.Result.{on_ok_weaker}
 use Rattle.tspdef.specs.Paths.{Condition}
 use Rattle.branchx.specs.Path.{Conditions}
 use Rattle.treebook.specs.Tree.{Table}
@@ -7,18 +6,11 @@ use Rattle.treebook.specs.Tables.{IsTable, path_at}
 use Rattle.pricer.specs.declared.closing.Report.{Report}
 use Rattle.worker.specs.Works.{IsReport, SplitsOnly, best_after}
 use Rattle.opening.specs.Openings.{opening_length}
-use Rattle.treesearch.specs.Searches.{Takes}
+use Rattle.treesearch.specs.declared.searching.Found.{Found}
+use Rattle.treesearch.specs.Searches.{Takes, IsSplitBy}
 use Rattle.treesearch.proofs.Needs.{taking_keeps, only_more}
 use Rattle.treesearch.proofs.Lengths.{path_is_short, cliques_are_few, found_is_short}
 use Rattle.treesearch.proofs.searching.settle.Goals as goal
-
-pub work-requires-clause-few : goal.work-requires-clause-few
-work-requires-clause-few g c =
-    let on : c.in_ok-path.path.conditions ≡ path_at c.args.found.now.tree.nodes c.args.node = ap (λ (p : Conditions). p.conditions) c.in_ok-path.ensures in
-    let short = path_is_short c.args.found.now.tree.nodes c.args.node in
-    let within = c.requires.node.within in
-    let few = c.requires.few in
-    rw on (omega arith)
 
 pub work-requires-clause-few_cliques : goal.work-requires-clause-few_cliques
 work-requires-clause-few_cliques g c =
@@ -33,7 +25,7 @@ pub work-requires-clause-short : goal.work-requires-clause-short
 work-requires-clause-short g c = found_is_short c.args.instance.now c.args.found.now c.n.ensures.instance c.requires.found
 
 pub returns-clause-splits : goal.returns-clause-splits
-returns-clause-splits g c = on_ok_weaker c.take.result (λ takes all.
+returns-clause-splits g c = λ all.
     let i = c.args.instance.now in
     let nodes = c.args.found.now.tree.nodes in
     let best = c.args.found.now.length in
@@ -46,8 +38,8 @@ returns-clause-splits g c = on_ok_weaker c.take.result (λ takes all.
     (subst (λ (r : Report). IsReport i path (best_after i best work.tour) r) (sym c.parts-tour.ensures.report) (c.in_ok-work.ensures.work c.requires.sure).report) in
     let may = subst (λ (p : List Condition). SplitsOnly g.W.Worker.splits i p best report) on
     (subst (λ (r : Report). SplitsOnly g.W.Worker.splits i path best r) (sym c.parts-tour.ensures.report) c.in_ok-work.ensures.splits) in
-    let taken = subst (λ (t : Table). Takes report c.args.node t.nodes c.take.new.found.tree.nodes) c.offer_found.ensures.tree takes in
-    taking_keeps c.tables_are_trees.ensures.leaves c.tables_grow.ensures.closing c.tables_grow.ensures.splitting g.W.Worker.splits i (opening_length i) (best_after i best work.tour)
+    let taken = subst (λ (t : Table). Takes report c.args.node t.nodes c.take.new.found.tree.nodes) c.offer_found.ensures.tree c.in_ok-take.ensures.takes in
+    let kept = taking_keeps c.tables_are_trees.ensures.leaves c.tables_grow.ensures.closing c.tables_grow.ensures.splitting g.W.Worker.splits i (opening_length i) (best_after i best work.tour)
     nodes c.take.new.found.tree.nodes c.args.node report is_table c.requires.node fits
-    (only_more g.W.Worker.splits g.W.Worker.splits_stay i (path_at nodes c.args.node) best (opening_length i) report c.requires.found.shorter may) taken all)
-    c.take.ensures.takes
+    (only_more g.W.Worker.splits g.W.Worker.splits_stay i (path_at nodes c.args.node) best (opening_length i) report c.requires.found.shorter may) taken all in
+    subst (λ (s : Found). IsSplitBy g.W.Worker.splits i s) (sym c.add_effort.ensures) kept

@@ -1,0 +1,45 @@
+//! What a node's program costs.
+
+use cutform::{Cut, Kind};
+use nodelp::NodeLp;
+use worker::Effort;
+
+/// What the program of a node cost: its rounds, its rows of cuts by their kinds, and its columns. O(cuts).
+pub(crate) fn effort_of(node: &NodeLp) -> Effort {
+    let rounds = u64::from(node.lp().rounds());
+    let mut effort = Effort {
+        programs: 1,
+        rounds,
+        most_rounds: rounds,
+        columns: node.lp().cols().len() as u64,
+        ..Effort::none()
+    };
+    for (cut, _) in node.cuts() {
+        effort = effort.and(row_of(cut));
+    }
+    effort
+}
+
+/// A row of a cut.
+fn row_of(cut: &Cut) -> Effort {
+    let none = Effort::none();
+    match cut.kind() {
+        Kind::Subtour => Effort {
+            subtours: 1,
+            ..none
+        },
+        Kind::Comb if has_pairs_as_teeth(cut) => Effort {
+            blossoms: 1,
+            ..none
+        },
+        Kind::Comb => Effort { combs: 1, ..none },
+    }
+}
+
+/// Whether the teeth of a comb are pairs.
+fn has_pairs_as_teeth(comb: &Cut) -> bool {
+    comb.sets()
+        .iter()
+        .skip(1)
+        .all(|tooth| tooth.cities().len() == 2)
+}
