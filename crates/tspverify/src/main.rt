@@ -3,10 +3,9 @@
 #![tactic(auto)]
 
 use ports::FileDesk;
-use std::alloc::{AllocError, Global};
-use std::env;
+use std::alloc::AllocError;
 use std::process::ExitCode;
-use verification::{VerifyStatus, run_verify};
+use verification::{VerifyStatus, command_words, run_verify};
 
 fn main(rt: HostRuntime) -> ExitCode {
     match verify(&rt) {
@@ -17,16 +16,7 @@ fn main(rt: HostRuntime) -> ExitCode {
 
 /// Runs the verifier on the real desk.
 fn verify(rt: &HostRuntime) -> Result<VerifyStatus, AllocError> {
-    let alloc = rt.alloc();
     let mut desk = FileDesk::new(rt.clone()?);
-    let words = words(rt, alloc)?;
-    Ok(run_verify(rt, alloc, &words, &mut desk))
-}
-
-/// The words of the command line; none where one is not text, which is not the verifier's form.
-fn words(rt: &HostRuntime, alloc: Global) -> Result<Vec<String>, AllocError> {
-    match env::args(rt) {
-        Ok(words) => words.collect(alloc),
-        Err(_) => Ok(Vec::new(alloc)),
-    }
+    let words = command_words(rt)?;
+    Ok(run_verify(rt, rt.alloc(), &words, &mut desk))
 }

@@ -1,5 +1,5 @@
 -- From the check of a proof to the printed answer.
-use Rattle.std.proofs.Common.{◌≡◌, ℕ, ◌≤◌, List, [], take, drop, refl, sym, ap, subst, ◌∙◌, ◌⊎◌, inr, ⊎_elim, Option, Some, None}
+use Rattle.std.proofs.Common.{◌≡◌, ℕ, ◌≤◌, List, [], take, drop, refl, sym, ap, subst, ◌∙◌, inl, inr, Option, Some, None}
 use Rattle.std.specs.Prelude.{◌↔◌}
 use Rattle.ports.specs.Outside.{BothTell, WhereTold}
 use Rattle.ports.specs.Desk.{Told, Adds, TakesFirst, with_added, with_left, with_inlet_path}
@@ -12,12 +12,13 @@ use Rattle.certdef.specs.Laws.{AcceptedTextIsOptimal}
 use Rattle.certcheck.specs.declared.answer.Answer.{Answer}
 use Rattle.certcheck.specs.declared.answer.Answer.TheVariants as answer
 use Rattle.certcheck.specs.Answers.{verdict_of, IsYes}
-use Rattle.verification.specs.Transfers.{TouchesProof}
+use Rattle.verification.specs.Transfers.{TouchesProof, proof_told}
 use Rattle.verification.specs.Answers.{IsRight, answer_text, answer_status}
-use Rattle.verification.specs.Judging.{Judges, IsSayStatus}
+use Rattle.verification.specs.Judging.{GivesAnswer, Judges, IsSayStatus}
 use Rattle.verification.specs.declared.statuses.VerifyStatus.{VerifyStatus}
 use Rattle.verification.specs.declared.statuses.VerifyStatus.TheVariants as status
 use Rattle.verification.proofs.Tells.{both_to, both_then}
+use Rattle.verification.proofs.Torn.{torn_by}
 
 -- an answer is right where it is the verdict, and yes exactly on accepted bytes
 right_of : (i : Instance) (proof : List ℕ) (a : Answer) → 3 ≤ i.n → AcceptedTextIsOptimal → verdict_of a ≡ verdict i proof
@@ -30,7 +31,11 @@ right_of i proof (answer.No k line) three optimal is exact = record { first = sy
 pub record Checks (i : Instance) (word : List ℕ) (a : Answer) (k : ℕ) (t u : Told) : Type 0 where
   pub right : IsRight i t.proof_in a
   pub whole : IsYes a → drop k t.proof_in ≡ []
-  pub others : u ≡ record t { proof_in = drop k t.proof_in; proof_in_path = Some word }
+  pub others : u ≡ proof_told word k t
+
+-- a bind, and a front that is taken
+bound_and_taken : (word : List ℕ) (k : ℕ) (t u v : Told) → u ≡ with_inlet_path inlet.Proof word t → TakesFirst inlet.Proof k u v → v ≡ proof_told word k t
+bound_and_taken word k t u v bound taken = taken ∙ ap (λ (x : Told). with_left inlet.Proof (drop k x.proof_in) x) bound
 
 pub checked : (i : Instance) (word : List ℕ) (ans : Answer) (k : ℕ) (a b c : Option Told) → 3 ≤ i.n → AcceptedTextIsOptimal
     → BothTell (λ t u. u ≡ with_inlet_path inlet.Proof word t) a b
@@ -47,55 +52,47 @@ checked i word ans k (Some t) (Some u) (Some v) three optimal bound judged exact
     let same : u.proof_in ≡ t.proof_in = ap (λ (x : Told). x.proof_in) bound in record {
       right = subst (λ (x : List ℕ). IsRight i x ans) same (right_of i u.proof_in ans three optimal judged exact);
       whole = λ yes. ap (drop k) (sym same) ∙ sym (ap (λ (x : Told). x.proof_in) taken) ∙ whole yes;
-      others = taken ∙ ap (λ (x : Told). with_left inlet.Proof (drop k x.proof_in) x) bound;
+      others = bound_and_taken word k t u v bound taken;
     }
 
 -- ---- and the answer is printed
 
-said_at : (i : Instance) (word : List ℕ) (ans : Answer) (k : ℕ) (t u v : Told) → Checks i word ans k t u → Adds outlet.Text (answer_text ans) u v → Judges i word (answer_status ans) t v
-said_at i word (answer.Yes l) k t u v r f = (l, record { right = r.right; count = k; whole = r.whole; others = f ∙ ap (with_added outlet.Text (answer_text (answer.Yes l))) r.others })
-said_at i word (answer.No n line) k t u v r f = (n, line, record { right = r.right; count = k; whole = r.whole; others = f ∙ ap (with_added outlet.Text (answer_text (answer.No n line))) r.others })
+gives : (i : Instance) (word : List ℕ) (ans : Answer) (k : ℕ) (t u v : Told) → Checks i word ans k t u → Adds outlet.Text (answer_text ans) u v → GivesAnswer i word ans t v
+gives i word ans k t u v r f = record { right = r.right; count = k; whole = r.whole; others = f ∙ ap (with_added outlet.Text (answer_text ans)) r.others }
+
+said_at : (i : Instance) (word : List ℕ) (ans : Answer) (t v : Told) → GivesAnswer i word ans t v → Judges i word (answer_status ans) t v
+said_at i word (answer.Yes l) t v x = (l, x)
+said_at i word (answer.No n line) t v x = (n, line, x)
 
 torn_at : (i : Instance) (word : List ℕ) (ans : Answer) (k j : ℕ) (t u v : Told) → Checks i word ans k t u → Adds outlet.Text (take j (answer_text ans)) u v → Judges i word status.WriteFault t v
-torn_at i word ans k j t u v r f = record { answer = ans; right = r.right; count = k; front = j; others = f ∙ ap (with_added outlet.Text (take j (answer_text ans))) r.others }
+torn_at i word ans k j t u v r f = (
+  ans,
+  torn_by (GivesAnswer i word ans) (answer_text ans) j t u v
+      (gives i word ans k t u (with_added outlet.Text (answer_text ans) u) r refl) (ap (λ (x : Told). x.text) r.others) f,
+)
 
 silent_at : (i : Instance) (word : List ℕ) (ans : Answer) (k : ℕ) (t u : Told) → Checks i word ans k t u → TouchesProof word t u
-silent_at i word ans k t u r = record {
-  count = k;
-  path = inr (ap (λ (x : Told). x.proof_in_path) r.others);
-  others = r.others ∙ ap (λ (p : Option (List ℕ)). record t { proof_in = drop k t.proof_in; proof_in_path = p }) (sym (ap (λ (x : Told). x.proof_in_path) r.others));
-}
-
-which : (s : VerifyStatus) (ans : Answer) → IsSayStatus s ans → (s ≡ answer_status ans) ⊎ (s ≡ status.WriteFault) ⊎ (s ≡ status.NoMemory)
-which s (answer.Yes l) is = is
-which s (answer.No n line) is = is
+silent_at i word ans k t u r = inr (k, r.others)
 
 pub said : (i : Instance) (word : List ℕ) (ans : Answer) (k : ℕ) (s : VerifyStatus) (a c d : Option Told) → BothTell (Checks i word ans k) a c → IsSayStatus s ans
     → (s ≡ answer_status ans → BothTell (Adds outlet.Text (answer_text ans)) c d)
     → (s ≡ status.WriteFault → (j : ℕ) × BothTell (Adds outlet.Text (take j (answer_text ans))) c d)
     → (s ≡ status.NoMemory → d ≡ c) → BothTell (Judges i word s) a d
-said i word ans k s a c d checks is whole torn same = ⊎_elim
-    (λ e. subst (λ (x : VerifyStatus). BothTell (Judges i word x) a d) (sym e)
-    (both_then (Checks i word ans k) (Adds outlet.Text (answer_text ans)) (Judges i word (answer_status ans)) (λ t u v r f. said_at i word ans k t u v r f) a c d checks (whole e)))
-    (λ more. ⊎_elim
-    (λ e. subst (λ (x : VerifyStatus). BothTell (Judges i word x) a d) (sym e)
-    (let (j, front) = torn e in
-    both_then (Checks i word ans k) (Adds outlet.Text (take j (answer_text ans))) (Judges i word status.WriteFault) (λ t u v r f. torn_at i word ans k j t u v r f) a c d checks front))
-    (λ e. subst (λ (x : VerifyStatus). BothTell (Judges i word x) a d) (sym e)
-    (subst (λ (x : Option Told). BothTell (TouchesProof word) a x) (sym (same e))
-    (both_to (Checks i word ans k) (TouchesProof word) (λ t u r. silent_at i word ans k t u r) a c checks)))
-    more)
-    (which s ans is)
+said i word ans k s a c d checks is whole torn same = elim is [
+  | inl e ↦ subst (λ (x : VerifyStatus). BothTell (Judges i word x) a d) (sym e)
+      (both_then (Checks i word ans k) (Adds outlet.Text (answer_text ans)) (Judges i word (answer_status ans))
+      (λ t u v r f. said_at i word ans t v (gives i word ans k t u v r f)) a c d checks (whole e))
+  | inr (inl e) ↦ subst (λ (x : VerifyStatus). BothTell (Judges i word x) a d) (sym e)
+      (let (j, front) = torn e in
+      both_then (Checks i word ans k) (Adds outlet.Text (take j (answer_text ans))) (Judges i word status.WriteFault)
+      (λ t u v r f. torn_at i word ans k j t u v r f) a c d checks front)
+  | inr (inr e) ↦ subst (λ (x : VerifyStatus). BothTell (Judges i word x) a d) (sym e)
+      (subst (λ (x : Option Told). BothTell (TouchesProof word) a x) (sym (same e))
+      (both_to (Checks i word ans k) (TouchesProof word) (λ t u r. silent_at i word ans k t u r) a c checks))
+]
 
 -- ---- where there is no answer
 
 pub touched : (word : List ℕ) (k : ℕ) (a b c : Option Told) → BothTell (λ t u. u ≡ with_inlet_path inlet.Proof word t) a b → BothTell (TakesFirst inlet.Proof k) b c → BothTell (TouchesProof word) a c
 touched word k a b c bound taken = both_then (λ t u. u ≡ with_inlet_path inlet.Proof word t) (TakesFirst inlet.Proof k) (TouchesProof word)
-    (λ t u v e f.
-    let is : v ≡ record t { proof_in = drop k t.proof_in; proof_in_path = Some word } = f ∙ ap (λ (x : Told). with_left inlet.Proof (drop k x.proof_in) x) e in
-    record {
-      count = k;
-      path = inr (ap (λ (x : Told). x.proof_in_path) is);
-      others = is ∙ ap (λ (p : Option (List ℕ)). record t { proof_in = drop k t.proof_in; proof_in_path = p }) (sym (ap (λ (x : Told). x.proof_in_path) is));
-    })
-    a b c bound taken
+    (λ t u v e f. inr (k, bound_and_taken word k t u v e f)) a b c bound taken

@@ -1,3 +1,5 @@
+pub mod Headline
+pub mod Paths
 pub mod Texts
 pub mod Codes
 pub mod Counts

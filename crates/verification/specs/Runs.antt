@@ -1,94 +1,70 @@
--- What a call of the verifier does to the outside.
-use Rattle.std.specs.Prelude.{◌≡◌, ℕ, ◌⊎◌, List, [], ◌++◌, codes, string_bytes, take, drop, Some}
+-- How a run of the verifier ends.
+use Rattle.std.specs.Prelude.{◌≡◌, ℕ, ◌⊎◌, List, Option}
 use Rattle.clap.specs.Walk.{Text}
+use Rattle.ports.specs.Outside.{BothTell}
 use Rattle.ports.specs.Desk.{Told}
-use Rattle.tspwords.specs.Program.{verifier_word}
-use Rattle.tspwords.specs.declared.words.VerifyWords.{VerifyWords}
-use Rattle.verification.specs.Answers.{IsAnswer, IsVerifiedAnswer, IsRefusedAnswer, IsBadAnswer}
-use Rattle.verification.specs.Transfers.{IsBoundTo}
-use Rattle.verification.specs.Texts.{usage_text}
+use Rattle.tspdef.specs.Instances.{Instance}
+use Rattle.tspinst.specs.Texts.{InstanceText}
+use Rattle.certdef.specs.Accepted.{IsAcceptedText}
+use Rattle.tspwords.specs.Program.{IsVerifierCall}
+use Rattle.verification.specs.Headline.{Verified, Refused, BadInstance, Usage}
+use Rattle.verification.specs.Counts.{IsTold}
+use Rattle.verification.specs.Paths.{Paths, paths_of}
+use Rattle.verification.specs.Transfers.{Torn, read_told, instance_told, proof_told}
 use Rattle.verification.specs.declared.statuses.VerifyStatus.{VerifyStatus}
 use Rattle.verification.specs.declared.statuses.VerifyStatus.TheVariants as status
 
--- the paths of the instance and of the proof
-pub record Paths : Type 0 where
-  pub instance : List ℕ
-  pub proof : List ℕ
+-- ---- of a call that names its paths
 
--- those of the verifier's words
-abbrev pub paths_of : List Text → Paths
-paths_of words = record { instance = verifier_word (codes "instance") words; proof = verifier_word (codes "proof") words }
+-- one of the three answers
+abbrev pub IsAnswered : Paths → Told → Told → Type 0
+IsAnswered paths t u = Verified paths t u ⊎ Refused paths t u ⊎ BadInstance paths.instance t u
 
--- the same of words that are read
-abbrev pub paths_in : VerifyWords → Paths
-paths_in v = record { instance = string_bytes v.instance; proof = string_bytes v.proof }
+-- Nothing was printed. Nothing was done; or the instance was bound and a front of it taken; or it was read to its end, and the
+-- proof bound and a front of that taken.
+abbrev pub IsSilent : Paths → Told → Told → Type 0
+IsSilent paths t u = (u ≡ t)
+    ⊎ ((count : ℕ) × (u ≡ instance_told paths.instance count t))
+    ⊎ ((count : ℕ) × (u ≡ proof_told paths.proof count (read_told paths.instance t)))
 
--- the answer is printed; the instance and the proof were read to their ends and are bound to their words
-pub record IsVerifiedRun (paths : Paths) (t u : Told) : Type 0 where
-  pub printed : List ℕ
-  pub answer : IsVerifiedAnswer t.instance t.proof_in printed
-  pub prints : u.text ≡ t.text ++ printed
-  pub instance_whole : u.instance ≡ []
-  pub proof_whole : u.proof_in ≡ []
-  pub instance_path : u.instance_path ≡ Some paths.instance
-  pub proof_path : u.proof_in_path ≡ Some paths.proof
+-- how it ends, by its status
+abbrev pub Ends : Paths → VerifyStatus → Told → Told → Type 0
+Ends paths status.Verified t u = Verified paths t u
+Ends paths status.Refused t u = Refused paths t u
+Ends paths status.BadInstance t u = BadInstance paths.instance t u
+Ends paths status.Usage t u = ⊥
+Ends paths status.ReadFault t u = IsSilent paths t u
+Ends paths status.WriteFault t u = Torn (IsAnswered paths) t u
+Ends paths status.NoMemory t u = IsSilent paths t u
 
--- the answer is printed; the instance was read to its end, and it and the proof are bound to their words
-pub record IsRefusedRun (paths : Paths) (t u : Told) : Type 0 where
-  pub printed : List ℕ
-  pub answer : IsRefusedAnswer t.instance t.proof_in printed
-  pub prints : u.text ≡ t.text ++ printed
-  pub instance_whole : u.instance ≡ []
-  pub instance_path : u.instance_path ≡ Some paths.instance
-  pub proof_path : u.proof_in_path ≡ Some paths.proof
+-- ---- of the program of its own
 
--- the answer is printed, and no proof was read; the instance is bound to its word
-pub record IsBadRun (paths : Paths) (t u : Told) : Type 0 where
-  pub printed : List ℕ
-  pub answer : IsBadAnswer t.instance printed
-  pub prints : u.text ≡ t.text ++ printed
-  pub unread : u.proof_in ≡ t.proof_in
-  pub instance_path : u.instance_path ≡ Some paths.instance
+-- the words of the command line, and what the desk told before and after
+pub record Run : Type 0 where
+  pub words : List Text
+  pub before : Option Told
+  pub after : Option Told
 
--- the usage was printed, and nothing else changed
-abbrev pub IsUsageRun : Told → Told → Type 0
-IsUsageRun t u = u ≡ record t { text = t.text ++ usage_text }
+abbrev pub run_of : List Text → Option Told → Option Told → Run
+run_of words before after = record { words = words; before = before; after = after }
 
--- a front of the usage was printed, and nothing else changed
-pub record IsTornUsage (t u : Told) : Type 0 where
-  pub front : ℕ
-  pub prints : u ≡ record t { text = t.text ++ take front usage_text }
+-- the words are of the verifier's form, and the call ends so
+abbrev pub IsCall : VerifyStatus → Run → Type 0
+IsCall s run = IsVerifierCall run.words × BothTell (Ends (paths_of run.words) s) run.before run.after
 
--- a front of an answer was printed
-pub record IsTornRun (t u : Told) : Type 0 where
-  pub wanted : VerifyStatus
-  pub printed : List ℕ
-  pub answer : IsAnswer wanted t.instance t.proof_in printed
-  pub front : ℕ
-  pub prints : u.text ≡ t.text ++ take front printed
+-- they are not, and the desk changes so
+abbrev pub IsNoCall : (Told → Told → Type 0) → Run → Type 0
+IsNoCall Changes run = ¬ IsVerifierCall run.words × BothTell Changes run.before run.after
 
--- nothing was printed
-abbrev pub PrintsNothing : Told → Told → Type 0
-PrintsNothing t u = u.text ≡ t.text
-
--- A path that is bound is as it was, or its word; fronts of the instance and of the proof were read, and no proof was written.
-pub record KeepsDesk (paths : Paths) (t u : Told) : Type 0 where
-  pub instance_path : IsBoundTo paths.instance t.instance_path u.instance_path
-  pub proof_path : IsBoundTo paths.proof t.proof_in_path u.proof_in_path
-  pub outlet_path : u.proof_out_path ≡ t.proof_out_path
-  pub outlet : u.proof_out ≡ t.proof_out
-  pub read : ℕ
-  pub instance : u.instance ≡ drop read t.instance
-  pub checked : ℕ
-  pub proof : u.proof_in ≡ drop checked t.proof_in
-
--- no text belongs to the status: a fault of reading, or want of memory
-abbrev pub IsSilent : VerifyStatus → Type 0
-IsSilent s = (s ≡ status.ReadFault) ⊎ (s ≡ status.NoMemory)
-
--- the words were of the verifier's form
-abbrev pub IsPastWords : VerifyStatus → Type 0
-IsPastWords s = (s ≡ status.Verified) ⊎ (s ≡ status.BadInstance) ⊎ (s ≡ status.Refused) ⊎ (s ≡ status.ReadFault)
+-- how a run ends, by its status
+abbrev pub EndsRun : VerifyStatus → Run → Type 0
+EndsRun status.Verified run = IsCall status.Verified run
+EndsRun status.Refused run = IsCall status.Refused run
+EndsRun status.BadInstance run = IsCall status.BadInstance run
+EndsRun status.Usage run = IsNoCall Usage run
+EndsRun status.ReadFault run = IsCall status.ReadFault run
+EndsRun status.WriteFault run = IsCall status.WriteFault run ⊎ IsNoCall (Torn Usage) run
+EndsRun status.NoMemory run = BothTell (IsSilent (paths_of run.words)) run.before run.after
 
 -- Verified or Refused, or want of memory
 abbrev pub IsJudged : VerifyStatus → Type 0
@@ -98,18 +74,8 @@ IsJudged s = (s ≡ status.Verified) ⊎ (s ≡ status.Refused) ⊎ (s ≡ statu
 abbrev pub IsVerified : VerifyStatus → Type 0
 IsVerified s = (s ≡ status.Verified) ⊎ (s ≡ status.NoMemory)
 
--- ---- by status, for the steps of a run
-
-abbrev pub IsEnded : Paths → VerifyStatus → Told → Told → Type 0
-IsEnded paths status.Verified t u = IsVerifiedRun paths t u
-IsEnded paths status.Usage t u = ⊥
-IsEnded paths status.BadInstance t u = IsBadRun paths t u
-IsEnded paths status.Refused t u = IsRefusedRun paths t u
-IsEnded paths status.ReadFault t u = PrintsNothing t u
-IsEnded paths status.WriteFault t u = IsTornRun t u
-IsEnded paths status.NoMemory t u = PrintsNothing t u
-
--- how a run ends on the desk
-pub record EndsDesk (paths : Paths) (s : VerifyStatus) (t u : Told) : Type 0 where
-  pub ended : IsEnded paths s t u
-  pub keeps : KeepsDesk paths t u
+-- A call on an instance's text is judged, and verified where the proof is accepted for it.
+pub record IsComplete (s : VerifyStatus) (run : Run) : Type 0 where
+  pub judged : (i : Instance) → IsVerifierCall run.words → IsTold (λ t. InstanceText t.instance i) run.before → IsJudged s
+  pub accepted : (i : Instance) (l : ℕ) → IsVerifierCall run.words
+      → IsTold (λ t. InstanceText t.instance i × IsAcceptedText i t.proof_in l) run.before → IsVerified s

@@ -1,12 +1,11 @@
 //! The run of the verifier.
-ghost use Rattle.std.specs.Prelude.{◌≡◌, ◌≢◌, ◌⊎◌, ℕ, map, string_bytes};
+ghost use Rattle.std.specs.Prelude.{◌≡◌, ◌≢◌, ◌⊎◌, ℕ, map, string_bytes, take};
 ghost use Rattle.ports.specs.Outside.{BothTell, Cause};
-ghost use Rattle.tspdef.specs.Instances as instances;
-ghost use Rattle.tspinst.specs.Texts.{InstanceText};
-ghost use Rattle.certdef.specs.Accepted.{IsAcceptedText};
-ghost use Rattle.tspwords.specs.Program.{IsVerifierCall};
-ghost use Rattle.verification.specs.Counts.{IsCalm, IsTold};
-ghost use Rattle.verification.specs.Runs.{Paths, paths_of, paths_in, IsVerifiedRun, IsRefusedRun, IsBadRun, IsUsageRun, IsTornUsage, IsTornRun, PrintsNothing, KeepsDesk, IsSilent, IsPastWords, IsJudged, IsVerified, EndsDesk};
+ghost use Rattle.ports.specs.Desk.{Adds};
+ghost use Rattle.verification.specs.Texts as texts;
+ghost use Rattle.verification.specs.Counts.{IsCalm};
+ghost use Rattle.verification.specs.Paths.{paths_in};
+ghost use Rattle.verification.specs.Runs.{Ends, EndsRun, IsComplete, run_of};
 
 use crate::judging::judge;
 use crate::reading::{Reading, Unread, read_instance, refuse};
@@ -18,40 +17,23 @@ use tspwords::{VerifyWords, WordsError, read_verify_words};
 
 /// Does what the words of the verifier's command line say, of which the first is the program's name, and says how it ended.
 ///
-/// `INSTANCE PROOF` reads the instance and then the proof, whoever wrote it, and prints `VERIFIED` and the length of a shortest
-/// tour where the proof is accepted, and else `REFUSED` and its first refusal with the line of it.
+/// `INSTANCE PROOF` reads the instance to its end and then the proof, whoever wrote it, and prints `VERIFIED` and the length of a
+/// shortest tour where the proof is accepted, and else `REFUSED` and its first refusal with the line of it. A bad instance is
+/// told by `INSTANCE` and its first refusal, and no proof is opened then. Each file is opened once, and none is written.
 ///
-/// Where the desk does not tell what it holds, the clauses speak of the counts of faults alone.
+/// Where the desk does not tell what it holds, the clauses speak of the words and of the counts of faults alone.
 pub fn run_verify<R, D: Desk>(
     _rt: &R,
     alloc: Global,
     words: &[String],
     desk: &mut D,
 ) -> VerifyStatus
-    ensures verified { result ≡ VerifyStatus.Verified
-        → BothTell (IsVerifiedRun (paths_of (map string_bytes words.now))) (D.told desk.old) (D.told desk.new) }
-    ensures refused { result ≡ VerifyStatus.Refused
-        → BothTell (IsRefusedRun (paths_of (map string_bytes words.now))) (D.told desk.old) (D.told desk.new) }
-    ensures bad_instance { result ≡ VerifyStatus.BadInstance
-        → BothTell (IsBadRun (paths_of (map string_bytes words.now))) (D.told desk.old) (D.told desk.new) }
-    ensures usage { result ≡ VerifyStatus.Usage
-        → ¬ IsVerifierCall (map string_bytes words.now) × BothTell IsUsageRun (D.told desk.old) (D.told desk.new) }
-    ensures words { IsPastWords result → IsVerifierCall (map string_bytes words.now) }
+    ensures answers { EndsRun result (run_of (map string_bytes words.now) (D.told desk.old) (D.told desk.new)) }
     ensures reads { Cause (result ≡ VerifyStatus.ReadFault) (D.read_faults desk.old) (D.read_faults desk.new) }
     ensures writes { Cause (result ≡ VerifyStatus.WriteFault) (D.write_faults desk.old) (D.write_faults desk.new) }
-    ensures silent { IsSilent result → BothTell PrintsNothing (D.told desk.old) (D.told desk.new) }
-    ensures torn { result ≡ VerifyStatus.WriteFault
-        → (IsVerifierCall (map string_bytes words.now) × BothTell IsTornRun (D.told desk.old) (D.told desk.new))
-        ⊎ (¬ IsVerifierCall (map string_bytes words.now) × BothTell IsTornUsage (D.told desk.old) (D.told desk.new)) }
-    ensures desk { BothTell (KeepsDesk (paths_of (map string_bytes words.now))) (D.told desk.old) (D.told desk.new) }
-    ensures complete { (i : instances.Instance) → IsVerifierCall (map string_bytes words.now)
-        → IsTold (λ t. InstanceText t.instance i) (D.told desk.old)
-        → IsCalm (D.read_faults desk.old) (D.read_faults desk.new)
-        → IsCalm (D.write_faults desk.old) (D.write_faults desk.new) → IsJudged result }
-    ensures accepted { (i : instances.Instance) → (l : ℕ) → IsVerifierCall (map string_bytes words.now)
-        → IsTold (λ t. InstanceText t.instance i × IsAcceptedText i t.proof_in l) (D.told desk.old)
-        → IsCalm (D.read_faults desk.old) (D.read_faults desk.new)
-        → IsCalm (D.write_faults desk.old) (D.write_faults desk.new) → IsVerified result }
+    ensures complete { IsCalm (D.read_faults desk.old) (D.read_faults desk.new)
+        → IsCalm (D.write_faults desk.old) (D.write_faults desk.new)
+        → IsComplete result (run_of (map string_bytes words.now) (D.told desk.old) (D.told desk.new)) }
 {
     match read_verify_words(alloc, words) {
         Ok(words) => verify(alloc, &words, desk),
@@ -62,10 +44,10 @@ pub fn run_verify<R, D: Desk>(
 
 /// Prints the usage.
 fn usage<D: Desk>(desk: &mut D) -> VerifyStatus
-    ensures usage { result ≡ VerifyStatus.Usage → BothTell IsUsageRun (D.told desk.old) (D.told desk.new) }
-    ensures torn { result ≡ VerifyStatus.WriteFault → BothTell IsTornUsage (D.told desk.old) (D.told desk.new) }
+    ensures usage { result ≡ VerifyStatus.Usage → BothTell (Adds Outlet.Text texts.usage_text) (D.told desk.old) (D.told desk.new) }
+    ensures torn { result ≡ VerifyStatus.WriteFault
+        → (k : ℕ) × BothTell (Adds Outlet.Text (take k texts.usage_text)) (D.told desk.old) (D.told desk.new) }
     ensures status { (result ≡ VerifyStatus.Usage) ⊎ (result ≡ VerifyStatus.WriteFault) }
-    ensures keeps { (paths : Paths) → BothTell (KeepsDesk paths) (D.told desk.old) (D.told desk.new) }
     ensures cause { Cause (result ≡ VerifyStatus.WriteFault) (D.write_faults desk.old) (D.write_faults desk.new) }
     ensures same { D.read_faults desk.new ≡ D.read_faults desk.old }
 {
@@ -75,9 +57,9 @@ fn usage<D: Desk>(desk: &mut D) -> VerifyStatus
     }
 }
 
-/// Reads an instance and a proof, and prints whether the proof is one for the instance.
+/// Reads an instance and a proof, and prints whether the proof is one for the instance, as [`run_verify`] does.
 pub fn verify<D: Desk>(alloc: Global, words: &VerifyWords, desk: &mut D) -> VerifyStatus
-    ensures desk { BothTell (EndsDesk (paths_in words.now) result) (D.told desk.old) (D.told desk.new) }
+    ensures answers { BothTell (Ends (paths_in words.now) result) (D.told desk.old) (D.told desk.new) }
     ensures status { result ≢ VerifyStatus.Usage }
     ensures reads { Cause (result ≡ VerifyStatus.ReadFault) (D.read_faults desk.old) (D.read_faults desk.new) }
     ensures writes { Cause (result ≡ VerifyStatus.WriteFault) (D.write_faults desk.old) (D.write_faults desk.new) }

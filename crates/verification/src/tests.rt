@@ -2,9 +2,11 @@
 
 ghost use Rattle.std.specs.Prelude.{◌<◌};
 
-use crate::{VerifyStatus, run_verify};
-use ports::{MemDesk, Room};
+use crate::{VerifyStatus, command_words, run_verify};
+use ports::{Inlet, MemDesk, Room};
 use std::alloc::{AllocError, Global};
+use std::env::FillError;
+use std::rt::Env;
 use std::test::Fail;
 
 pub(crate) const SQUARE: &str =
@@ -68,6 +70,28 @@ fn words(alloc: Global, line: &str) -> Result<Vec<String>, AllocError> {
     Ok(words)
 }
 
+fn desk_of(
+    alloc: Global,
+    instance: &str,
+    proof: &str,
+    faults: &Faults<'_>,
+) -> Result<MemDesk, AllocError>
+    requires some_read { 0 < faults.now.most_read }
+    requires some_write { 0 < faults.now.most_write }
+{
+    MemDesk::new(
+        alloc,
+        instance.as_bytes(),
+        proof.as_bytes(),
+        faults.most_read,
+        faults.most_write,
+        faults.bad_binds,
+        faults.bad_reads,
+        faults.bad_writes,
+        ROOM,
+    )
+}
+
 fn run_with(
     alloc: Global,
     line: &str,
@@ -78,17 +102,7 @@ fn run_with(
     requires some_read { 0 < faults.now.most_read }
     requires some_write { 0 < faults.now.most_write }
 {
-    let mut desk = MemDesk::new(
-        alloc,
-        instance.as_bytes(),
-        proof.as_bytes(),
-        faults.most_read,
-        faults.most_write,
-        faults.bad_binds,
-        faults.bad_reads,
-        faults.bad_writes,
-        ROOM,
-    )?;
+    let mut desk = desk_of(alloc, instance, proof, faults)?;
     let status = run_verify(&(), alloc, &words(alloc, line)?, &mut desk);
     Ok(Ended { status, desk })
 }
@@ -133,7 +147,7 @@ fn accepted_proofs_are_verified(rt: HostRuntime) -> Result<(), Fail> {
         assert_eq!(rt; ended.status, VerifyStatus::Verified);
         assert_eq!(rt; ended.desk.text(), want);
         assert_eq!(rt; ended.desk.proof(), b"".as_slice());
-        assert_eq!(rt; ended.desk.left(ports::Inlet::Proof), b"".as_slice());
+        assert_eq!(rt; ended.desk.left(Inlet::Proof), b"".as_slice());
     }
     Ok(())
 }
@@ -232,17 +246,92 @@ fn a_refused_instance_is_told(rt: HostRuntime) -> Result<(), Fail> {
         let ended = verified(alloc, &with_line(alloc, SQUARE, number, line)?, PROOF)?;
         assert_eq!(rt; ended.status, VerifyStatus::BadInstance);
         assert_eq!(rt; ended.desk.text(), want.as_bytes());
-        assert_eq!(rt; ended.desk.left(ports::Inlet::Proof), PROOF.as_bytes());
+        assert_eq!(rt; ended.desk.left(Inlet::Instance), b"".as_slice());
+        assert_eq!(rt; ended.desk.left(Inlet::Proof), PROOF.as_bytes());
     }
     Ok(())
 }
 
 #[test]
-fn paths_are_bound_to_their_words(rt: HostRuntime) -> Result<(), Fail> {
+fn each_file_is_bound_once_to_its_word(rt: HostRuntime) -> Result<(), Fail> {
     let alloc = rt.alloc();
-    let ended = run_with(alloc, "tspverify i.tsp p.cert", SQUARE, PROOF, &NONE)?;
-    assert!(rt; is_bound_to(ended.desk.inlet_path(ports::Inlet::Instance), b"i.tsp"));
-    assert!(rt; is_bound_to(ended.desk.inlet_path(ports::Inlet::Proof), b"p.cert"));
+    for proof in [PROOF, "", "TSPCERT 1\n"] {
+        let ended = run_with(alloc, "tspverify i.tsp p.cert", SQUARE, proof, &NONE)?;
+        assert!(rt; is_bound_to(ended.desk.inlet_path(Inlet::Instance), b"i.tsp"));
+        assert!(rt; is_bound_to(ended.desk.inlet_path(Inlet::Proof), b"p.cert"));
+        assert_eq!(rt; ended.desk.inlet_binds(Inlet::Instance), 1);
+        assert_eq!(rt; ended.desk.inlet_binds(Inlet::Proof), 1);
+        assert_eq!(rt; ended.desk.proof_binds(), 0);
+    }
+    Ok(())
+}
+
+#[test]
+fn no_proof_is_bound_for_a_bad_instance(rt: HostRuntime) -> Result<(), Fail> {
+    let alloc = rt.alloc();
+    let ended = run_with(
+        alloc,
+        "tspverify i.tsp p.cert",
+        "TYPE : TSP\n",
+        PROOF,
+        &NONE,
+    )?;
+    assert_eq!(rt; ended.desk.text(), b"INSTANCE 13 0 2\n".as_slice());
+    assert!(rt; is_bound_to(ended.desk.inlet_path(Inlet::Instance), b"i.tsp"));
+    assert!(rt; ended.desk.inlet_path(Inlet::Proof).is_none());
+    assert_eq!(rt; ended.desk.inlet_binds(Inlet::Instance), 1);
+    assert_eq!(rt; ended.desk.inlet_binds(Inlet::Proof), 0);
+    assert_eq!(rt; ended.desk.proof_binds(), 0);
+    Ok(())
+}
+
+#[test]
+fn nothing_is_bound_for_other_words(rt: HostRuntime) -> Result<(), Fail> {
+    let alloc = rt.alloc();
+    let ended = run_with(alloc, "tspverify i.tsp", SQUARE, PROOF, &NONE)?;
+    assert!(rt; ended.desk.inlet_path(Inlet::Instance).is_none());
+    assert!(rt; ended.desk.inlet_path(Inlet::Proof).is_none());
+    assert_eq!(rt; ended.desk.inlet_binds(Inlet::Instance), 0);
+    assert_eq!(rt; ended.desk.inlet_binds(Inlet::Proof), 0);
+    assert_eq!(rt; ended.desk.proof_binds(), 0);
+    assert_eq!(rt; ended.desk.left(Inlet::Instance), SQUARE.as_bytes());
+    Ok(())
+}
+
+/// A command line whose first word is one byte that is no UTF-8.
+#[derive(Drop)]
+struct Garbled;
+
+impl Env for Garbled {
+    fn arg(&self, i: usize, buf: &mut [u8]) -> Result<usize, FillError> {
+        if i > 0 {
+            return Err(FillError::NotPresent);
+        }
+        if buf.is_empty() {
+            return Err(FillError::TooLong);
+        }
+        buf[0] = 255;
+        Ok(1)
+    }
+
+    fn var(&self, _name: &str, _buf: &mut [u8]) -> Result<usize, FillError> {
+        Err(FillError::NotPresent)
+    }
+
+    fn var_at(&self, _i: usize, _buf: &mut [u8]) -> Result<usize, FillError> {
+        Err(FillError::NotPresent)
+    }
+}
+
+#[test]
+fn words_that_are_no_text_are_usage(rt: HostRuntime) -> Result<(), Fail> {
+    let alloc = rt.alloc();
+    let words = command_words(&(Garbled, alloc))?;
+    assert_eq!(rt; words.len(), 0);
+    let mut desk = desk_of(alloc, SQUARE, PROOF, &NONE)?;
+    let status = run_verify(&(), alloc, &words, &mut desk);
+    assert_eq!(rt; status, VerifyStatus::Usage);
+    assert_eq!(rt; desk.text(), b"USAGE tspverify INSTANCE PROOF\n".as_slice());
     Ok(())
 }
 

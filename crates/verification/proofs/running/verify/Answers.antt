@@ -4,12 +4,12 @@ use Rattle.verification.specs.Transfers.{ReadsInstance, RefusesInstance}
 use Rattle.verification.specs.Readings.{IsReadingOf}
 use Rattle.verification.specs.declared.reading.Reading.{Reading}
 use Rattle.verification.specs.Judging.{Judges}
-use Rattle.verification.specs.Runs.{paths_in}
+use Rattle.verification.specs.Paths.{paths_in}
 use Rattle.verification.proofs.Ends.{judged_ends, bad_ends}
 use Rattle.verification.proofs.running.verify.Goals as goal
 
-pub returns-in-Ok-Instance-clause-desk : goal.returns-in-Ok-Instance-clause-desk
-returns-in-Ok-Instance-clause-desk g c =
+pub returns-in-Ok-Instance-clause-answers : goal.returns-in-Ok-Instance-clause-answers
+returns-in-Ok-Instance-clause-answers g c =
     let paths = paths_in c.args.words.now in
     let i = c.in-Ok-Instance.instance in
     let a = g.D.Desk.told c.args.desk.now in
@@ -20,8 +20,8 @@ returns-in-Ok-Instance-clause-desk g c =
     let judges = subst (λ (w : List ℕ). BothTell (Judges i w c.judge.result) b d) c.deref-in-Ok-Instance.ensures c.judge.ensures.desk in
     judged_ends paths i c.judge.result a b d reads judges
 
-pub returns-in-Ok-Refused-clause-desk : goal.returns-in-Ok-Refused-clause-desk
-returns-in-Ok-Refused-clause-desk g c =
+pub returns-in-Ok-Refused-clause-answers : goal.returns-in-Ok-Refused-clause-answers
+returns-in-Ok-Refused-clause-answers g c =
     let paths = paths_in c.args.words.now in
     let r = c.in-Ok-Refused.refusal in
     let a = g.D.Desk.told c.args.desk.now in
