@@ -1,13 +1,12 @@
 -- Which values are of the grammar, and which of them are proofs for an instance.
 use Rattle.std.specs.Prelude.{◌≡◌, ℕ, zero, suc, ◌+◌, ◌-◌, ◌^◌, ◌≤◌, Bool, true, false, ◌&&◌, ◌==◌, cond, List, [], ◌∷◌, ◌++◌, length, map, slice_index_or, Option, Some, None, ℤ, pos}
 use Rattle.std.specs.List.{AllByRecursion}
-use Rattle.tspdef.specs.Instances.{Instance, IsTourOf, length_in}
-use Rattle.tspdef.specs.Tours.{IsCanonical}
+use Rattle.tspdef.specs.Instances.{Instance}
 use Rattle.tspdef.specs.Cuts.{Cut, subtour, comb, IsCut}
 use Rattle.tspdef.specs.Paths.{Condition, absent, present, two, four, condition_at}
 use Rattle.tspdef.specs.Closings.{Closing}
 use Rattle.tspdef.specs.Trees as trees
-use Rattle.tspdef.specs.Trees.{Tree, IsSoundFor, open_leaves}
+use Rattle.tspdef.specs.Trees.{Tree, IsAccepted}
 use Rattle.certdef.specs.Items.{rises, fits}
 use Rattle.certdef.specs.Proofs.{Listed, subtour_cut, comb_cut, Duals, Written, open_leaf, closed_leaf, edge_split, clique_split, Proof, items, text}
 
@@ -100,22 +99,18 @@ pub record HasForm (n : ℕ) (p : Proof) : Type 0 where
 
 -- ---- what a value says of an instance
 
--- Its size is the instance's, its cuts are cuts, whether a leaf names them or not, its tour is canonical and as long as it
--- says, and its tree is sound for that length.
-pub record IsSoundProof (i : Instance) (l : ℕ) (p : Proof) : Type 0 where
+-- A value is about an instance and a length: its size is the instance's, it says the length, its cuts are cuts, whether a leaf
+-- names them or not, and its tour counts cities from 1.
+pub record IsAbout (i : Instance) (l : ℕ) (p : Proof) : Type 0 where
   pub size : p.cities ≡ i.n
   pub same : p.long ≡ l
   pub cuts : AllByRecursion (IsCut i.n) (cuts_of i.n p.cuts)
   pub from_one : AllByRecursion (λ c. 1 ≤ c) p.tour
-  pub is_tour : IsTourOf i (from_zero p.tour)
-  pub canonical : IsCanonical (from_zero p.tour)
-  pub long : l ≡ length_in i (from_zero p.tour)
-  pub sound : IsSoundFor i l (tree_in i.n p)
 
--- it is sound, and no leaf is open
+-- it is, and its tour and its tree are an accepted proof
 pub record IsAcceptedProof (i : Instance) (l : ℕ) (p : Proof) : Type 0 where
-  pub sound : IsSoundProof i l p
-  pub none_open : open_leaves (tree_in i.n p) ≡ 0
+  pub about : IsAbout i l p
+  pub accepted : IsAccepted i (from_zero p.tour) l (tree_in i.n p)
 
 -- a text that may be accepted has at most so many bytes
 abbrev pub most_bytes : ℕ

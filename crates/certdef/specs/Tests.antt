@@ -1,5 +1,6 @@
--- The tests that refusals go by, as plain true or false.
-use Rattle.std.specs.Prelude.{ℕ, ◌+◌, ◌%◌, Bool, true, false, not, ◌&&◌, ◌==◌, nat_lt, nat_le, List, [], ◌∷◌, length}
+-- The tests that refusals go by, as plain true or false. The first of them say again what definitions of `tspdef` say, since a
+-- machine that tells refusals must compute them; the law `tests_decide` of the crate `verdict` ties each to its definition.
+use Rattle.std.specs.Prelude.{ℕ, ◌-◌, ◌%◌, Bool, true, false, not, ◌&&◌, ◌==◌, nat_lt, nat_le, List, [], ◌∷◌, length}
 use Rattle.std.specs.Int.Signed.{lt_z}
 use Rattle.tspdef.specs.Sets.{has, meet, meets_any, leaves}
 use Rattle.tspdef.specs.Tours.{last_city}
@@ -7,7 +8,7 @@ use Rattle.tspdef.specs.Instances.{Instance, length_in}
 use Rattle.tspdef.specs.Cuts.{Cut, subtour, comb}
 use Rattle.tspdef.specs.Paths.{Condition, condition_at, is_decided}
 use Rattle.tspdef.specs.Bounds.{bound, needed}
-use Rattle.certdef.specs.Items.{each_below}
+use Rattle.certdef.specs.Items.{rises, each_below}
 use Rattle.certdef.specs.Proofs.{Listed, Duals}
 use Rattle.certdef.specs.Accepted.{from_zero, cut_of, cuts_of, closing_of, is_clique}
 
@@ -29,14 +30,9 @@ is_canonical [] = false
 is_canonical (a ∷ []) = false
 is_canonical (a ∷ b ∷ cs) = (a == 0) && nat_lt b (last_city b cs)
 
--- strictly rising, the first at least `from` and all below n
-abbrev pub rises_below : ℕ → ℕ → List ℕ → Bool
-rises_below n from [] = true
-rises_below n from (c ∷ cs) = (nat_le from c && nat_lt c n) && rises_below n (c + 1) cs
-
 -- a set that is neither empty nor all n cities
 abbrev pub is_proper : ℕ → List ℕ → Bool
-is_proper n s = rises_below n 0 s && (nat_lt 0 (length s) && nat_lt (length s) n)
+is_proper n s = rises 0 (n - 1) s && (nat_lt 0 (length s) && nat_lt (length s) n)
 
 abbrev pub are_disjoint : List (List ℕ) → Bool
 are_disjoint [] = true
@@ -44,7 +40,7 @@ are_disjoint (t ∷ ts) = not (meets_any t ts) && are_disjoint ts
 
 abbrev pub are_teeth : ℕ → List ℕ → List (List ℕ) → Bool
 are_teeth n h [] = true
-are_teeth n h (t ∷ ts) = (rises_below n 0 t && (meet t h && leaves t h)) && are_teeth n h ts
+are_teeth n h (t ∷ ts) = (rises 0 (n - 1) t && (meet t h && leaves t h)) && are_teeth n h ts
 
 -- a cut of n cities
 abbrev pub is_cut : ℕ → Cut → Bool
@@ -92,20 +88,4 @@ verifier i = record {
   names = λ path d. is_clique (condition_at path d);
   closes = closes_leaf i;
   opens = false;
-}
-
--- Those of a reader of the form alone, for n cities. It leaves to its caller another number of cities, and what a depth
--- names.
-abbrev pub form_only : ℕ → Tests
-form_only n = record {
-  n = n;
-  size = λ m. true;
-  tour = λ cs. true;
-  has_length = λ cs l. true;
-  cut = λ c. true;
-  decided = λ path u v. false;
-  proper = λ s. true;
-  names = λ path d. true;
-  closes = λ l cs path d. true;
-  opens = true;
 }

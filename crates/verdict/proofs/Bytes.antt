@@ -9,7 +9,7 @@ use Rattle.certdef.specs.Verdicts.{Stage, wants_title, wants_size, wants_length,
 use Rattle.certdef.specs.Bytes.{Reading, Read, reads, stops, start, line_on, byte_on, bytes_on, verdict_at_end}
 use Rattle.certdef.specs.Accepted.{most_bytes}
 use Rattle.verdict.proofs.Lines.{InLine, item_said, line_plain, small_if}
-use Rattle.certdef.specs.Laws.{YesIsAcceptedText, ReadsInPieces}
+use Rattle.verdict.specs.Laws.{YesIsAcceptedText, ReadsInPieces}
 use Rattle.verdict.proofs.Values.{yes_is_accepted}
 
 pub reads_in_pieces : ReadsInPieces

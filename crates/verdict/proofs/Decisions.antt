@@ -1,5 +1,5 @@
 -- the tests decide the definitions
-use Rattle.std.proofs.Common.{◌≡◌, ℕ, ◌+◌, ◌%◌, ◌<◌, ◌≤◌, Bool, true, false, not, ◌&&◌, List, [], ◌∷◌, length, ℤ, refl, arith}
+use Rattle.std.proofs.Common.{◌≡◌, ℕ, ◌+◌, ◌-◌, ◌%◌, ◌<◌, ◌≤◌, Bool, true, false, not, ◌&&◌, List, [], ◌∷◌, length, ℤ, refl, arith}
 use Rattle.std.specs.Prelude.{nat_le, nat_lt, ◌==◌, ◌<ℤ◌}
 use Rattle.std.specs.Int.Signed.{lt_z}
 use Rattle.std.specs.List.{AllByRecursion}
@@ -10,9 +10,11 @@ use Rattle.tspdef.specs.Tours.{AreDistinct, IsTour, last_city, IsCanonical}
 use Rattle.tspdef.specs.Cuts.{Cut, subtour, comb, IsTooth, IsComb, IsCut}
 use Rattle.tspdef.specs.Paths.{Condition, absent, present, two, four, IsClique}
 use Rattle.std.specs.Prelude.{Option, Some, None}
-use Rattle.certdef.specs.Items.{each_below}
-use Rattle.certdef.specs.Accepted.{from_zero, is_clique}
-use Rattle.certdef.specs.Tests.{each_positive, are_distinct, is_tour, is_canonical, is_tour_from_one, rises_below, is_proper, are_disjoint, are_teeth, is_cut}
+use Rattle.certdef.specs.Items.{rises, each_below}
+use Rattle.tspdef.specs.Bounds.{bound, needed}
+use Rattle.certdef.specs.Accepted.{from_zero, cuts_of, closing_of, is_clique}
+use Rattle.verdict.specs.Decided.{IsTourFromOne, ToursAreDecided, CanonicalIsDecided, ToursFromOneAreDecided, ProperIsDecided, CutsAreDecided, CliquesAreDecided, ClosedLeavesAreDecided}
+use Rattle.certdef.specs.Tests.{each_positive, are_distinct, is_tour, is_canonical, is_tour_from_one, is_proper, are_disjoint, are_teeth, is_cut}
 
 not_true : (b : Bool) → b ≡ false → not b ≡ true
 not_true true e = cc
@@ -63,12 +65,6 @@ pub yes_positive : (cs : List ℕ) → AllByRecursion (λ c. 1 ≤ c) cs → eac
 yes_positive [] h = refl
 yes_positive (c ∷ cs) h = and_from (nat_lt 0 c) (each_positive cs) (lt-ltb 0 c h.0) (yes_positive cs h.1)
 
--- a canonical tour of n cities, of cities from 1
-pub record IsTourFromOne (n : ℕ) (cs : List ℕ) : Type 0 where
-  pub from_one : AllByRecursion (λ c. 1 ≤ c) cs
-  pub is_tour : IsTour n (from_zero cs)
-  pub canonical : IsCanonical (from_zero cs)
-
 pub tour_from_one_yes : (n : ℕ) (cs : List ℕ) → is_tour_from_one n cs ≡ true → IsTourFromOne n cs
 tour_from_one_yes n cs e =
     let p = and_parts (each_positive cs) (is_tour n (from_zero cs) && is_canonical (from_zero cs)) e in
@@ -81,25 +77,29 @@ yes_tour_from_one n cs p t c = and_from (each_positive cs) (is_tour n (from_zero
 
 -- ---- sets
 
-rises_yes : (n from : ℕ) (cs : List ℕ) → rises_below n from cs ≡ true → RisesFrom n from cs
-rises_yes n from [] e = tt
-rises_yes n from (c ∷ cs) e =
-    let p = and_parts (nat_le from c && nat_lt c n) (rises_below n (c + 1) cs) e in
-    let q = and_parts (nat_le from c) (nat_lt c n) p.0 in
-    ((leb-true from c q.0, ltb-true c n q.1), rises_yes n (c + 1) cs p.1)
+rises_yes : (n from : ℕ) (cs : List ℕ) → 0 < n → rises from (n - 1) cs ≡ true → RisesFrom n from cs
+rises_yes n from [] some e = tt
+rises_yes n from (c ∷ cs) some e =
+    let p = and_parts (nat_le from c && nat_le c (n - 1)) (rises (c + 1) (n - 1) cs) e in
+    let q = and_parts (nat_le from c) (nat_le c (n - 1)) p.0 in
+    let high = leb-true c (n - 1) q.1 in
+    ((leb-true from c q.0, omega arith), rises_yes n (c + 1) cs some p.1)
 
-yes_rises : (n from : ℕ) (cs : List ℕ) → RisesFrom n from cs → rises_below n from cs ≡ true
+yes_rises : (n from : ℕ) (cs : List ℕ) → RisesFrom n from cs → rises from (n - 1) cs ≡ true
 yes_rises n from [] h = refl
-yes_rises n from (c ∷ cs) h = and_from (nat_le from c && nat_lt c n) (rises_below n (c + 1) cs) (and_from (nat_le from c) (nat_lt c n) (le-leb from c h.0.0) (lt-ltb c n h.0.1)) (yes_rises n (c + 1) cs h.1)
+yes_rises n from (c ∷ cs) h =
+    let high = h.0.1 in
+    and_from (nat_le from c && nat_le c (n - 1)) (rises (c + 1) (n - 1) cs) (and_from (nat_le from c) (nat_le c (n - 1)) (le-leb from c h.0.0) (le-leb c (n - 1) (omega arith))) (yes_rises n (c + 1) cs h.1)
 
 pub proper_yes : (n : ℕ) (s : List ℕ) → is_proper n s ≡ true → IsProper n s
 proper_yes n s e =
-    let p = and_parts (rises_below n 0 s) (nat_lt 0 (length s) && nat_lt (length s) n) e in
+    let p = and_parts (rises 0 (n - 1) s) (nat_lt 0 (length s) && nat_lt (length s) n) e in
     let q = and_parts (nat_lt 0 (length s)) (nat_lt (length s) n) p.1 in
-    record { set = rises_yes n 0 s p.0; some = ltb-true 0 (length s) q.0; not_all = ltb-true (length s) n q.1 }
+    let few = ltb-true (length s) n q.1 in
+    record { set = rises_yes n 0 s (omega arith) p.0; some = ltb-true 0 (length s) q.0; not_all = few }
 
 pub yes_proper : (n : ℕ) (s : List ℕ) → IsProper n s → is_proper n s ≡ true
-yes_proper n s h = and_from (rises_below n 0 s) (nat_lt 0 (length s) && nat_lt (length s) n) (yes_rises n 0 s h.set) (and_from (nat_lt 0 (length s)) (nat_lt (length s) n) (lt-ltb 0 (length s) h.some) (lt-ltb (length s) n h.not_all))
+yes_proper n s h = and_from (rises 0 (n - 1) s) (nat_lt 0 (length s) && nat_lt (length s) n) (yes_rises n 0 s h.set) (and_from (nat_lt 0 (length s)) (nat_lt (length s) n) (lt-ltb 0 (length s) h.some) (lt-ltb (length s) n h.not_all))
 
 -- ---- cuts
 
@@ -111,20 +111,20 @@ yes_disjoint : (ts : List (List ℕ)) → AreDisjoint ts → are_disjoint ts ≡
 yes_disjoint [] h = refl
 yes_disjoint (t ∷ ts) h = and_from (not (meets_any t ts)) (are_disjoint ts) (not_true (meets_any t ts) h.0) (yes_disjoint ts h.1)
 
-teeth_yes : (n : ℕ) (h : List ℕ) (ts : List (List ℕ)) → are_teeth n h ts ≡ true → AllByRecursion (IsTooth n h) ts
-teeth_yes n h [] e = tt
-teeth_yes n h (t ∷ ts) e =
-    let p = and_parts (rises_below n 0 t && (meet t h && leaves t h)) (are_teeth n h ts) e in
-    let q = and_parts (rises_below n 0 t) (meet t h && leaves t h) p.0 in
+teeth_yes : (n : ℕ) (h : List ℕ) (ts : List (List ℕ)) → 0 < n → are_teeth n h ts ≡ true → AllByRecursion (IsTooth n h) ts
+teeth_yes n h [] some e = tt
+teeth_yes n h (t ∷ ts) some e =
+    let p = and_parts (rises 0 (n - 1) t && (meet t h && leaves t h)) (are_teeth n h ts) e in
+    let q = and_parts (rises 0 (n - 1) t) (meet t h && leaves t h) p.0 in
     let r = and_parts (meet t h) (leaves t h) q.1 in
-    (record { set = rises_yes n 0 t q.0; inside = r.0; outside = r.1 }, teeth_yes n h ts p.1)
+    (record { set = rises_yes n 0 t some q.0; inside = r.0; outside = r.1 }, teeth_yes n h ts some p.1)
 
 yes_teeth : (n : ℕ) (h : List ℕ) (ts : List (List ℕ)) → AllByRecursion (IsTooth n h) ts → are_teeth n h ts ≡ true
 yes_teeth n h [] k = refl
 yes_teeth n h (t ∷ ts) k =
     let tooth = k.0 in
-    and_from (rises_below n 0 t && (meet t h && leaves t h)) (are_teeth n h ts)
-    (and_from (rises_below n 0 t) (meet t h && leaves t h) (yes_rises n 0 t tooth.set) (and_from (meet t h) (leaves t h) tooth.inside tooth.outside)) (yes_teeth n h ts k.1)
+    and_from (rises 0 (n - 1) t && (meet t h && leaves t h)) (are_teeth n h ts)
+    (and_from (rises 0 (n - 1) t) (meet t h && leaves t h) (yes_rises n 0 t tooth.set) (and_from (meet t h) (leaves t h) tooth.inside tooth.outside)) (yes_teeth n h ts k.1)
 
 comb_yes : (n : ℕ) (h : List ℕ) (ts : List (List ℕ)) → is_proper n h && ((length ts % 2 == 1) && (nat_le 3 (length ts) && (are_teeth n h ts && are_disjoint ts))) ≡ true → IsComb n h ts
 comb_yes n h ts e =
@@ -132,7 +132,9 @@ comb_yes n h ts e =
     let q = and_parts (length ts % 2 == 1) (nat_le 3 (length ts) && (are_teeth n h ts && are_disjoint ts)) p.1 in
     let r = and_parts (nat_le 3 (length ts)) (are_teeth n h ts && are_disjoint ts) q.1 in
     let s = and_parts (are_teeth n h ts) (are_disjoint ts) r.1 in
-    record { proper = proper_yes n h p.0; odd = eqb-true (length ts % 2) 1 q.0; many = leb-true 3 (length ts) r.0; each_tooth = teeth_yes n h ts s.0; disjoint = disjoint_yes ts s.1 }
+    let proper = proper_yes n h p.0 in
+    let few = proper.not_all in
+    record { proper = proper; odd = eqb-true (length ts % 2) 1 q.0; many = leb-true 3 (length ts) r.0; each_tooth = teeth_yes n h ts (omega arith) s.0; disjoint = disjoint_yes ts s.1 }
 
 yes_comb : (n : ℕ) (h : List ℕ) (ts : List (List ℕ)) → IsComb n h ts → is_proper n h && ((length ts % 2 == 1) && (nat_le 3 (length ts) && (are_teeth n h ts && are_disjoint ts))) ≡ true
 yes_comb n h ts k =
@@ -166,3 +168,35 @@ below_z a b e = grind (arith, ints)
 
 pub z_below : (a b : ℤ) → a <ℤ b → lt_z a b ≡ true
 z_below a b h = grind (arith, ints)
+
+-- ---- each test, forth and back
+
+pub yes_clique : (c : Option Condition) → IsClique c → is_clique c ≡ true
+yes_clique None h = absurd h
+yes_clique (Some (absent u v)) h = absurd h
+yes_clique (Some (present u v)) h = absurd h
+yes_clique (Some (two s)) h = refl
+yes_clique (Some (four s)) h = refl
+
+pub tours_are_decided : ToursAreDecided
+tours_are_decided n cs = (tour_yes n cs, yes_tour n cs)
+
+pub canonical_is_decided : CanonicalIsDecided
+canonical_is_decided cs = (canonical_yes cs, yes_canonical cs)
+
+pub tours_from_one_are_decided : ToursFromOneAreDecided
+tours_from_one_are_decided n cs = (tour_from_one_yes n cs, λ k. yes_tour_from_one n cs k.from_one k.is_tour k.canonical)
+
+pub proper_is_decided : ProperIsDecided
+proper_is_decided n s = (proper_yes n s, yes_proper n s)
+
+pub cuts_are_decided : CutsAreDecided
+cuts_are_decided n c = (cut_yes n c, yes_cut n c)
+
+pub cliques_are_decided : CliquesAreDecided
+cliques_are_decided c = (clique_yes c, yes_clique c)
+
+pub closed_leaves_are_decided : ClosedLeavesAreDecided
+closed_leaves_are_decided i l cs path d =
+    let b = bound i path (closing_of i.n (cuts_of i.n cs) d) in
+    (below_z (needed l) b, z_below (needed l) b)

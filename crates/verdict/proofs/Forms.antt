@@ -1,17 +1,21 @@
 -- the reader's counts are those of the machine by the form's tests
-use Rattle.std.proofs.Common.{◌≡◌, ℕ, zero, suc, ◌+◌, ◌^◌, ◌<◌, Bool, true, false, cond, ◌&&◌, List, [], ◌∷◌, ◌++◌, length, map, Option, Some, None, refl, sym, ap, ◌∙◌, arith, length-append}
-use Rattle.std.specs.Prelude.{nat_le}
+use Rattle.std.proofs.Common.{◌≡◌, ℕ, zero, suc, ◌+◌, ◌-◌, ◌^◌, ◌<◌, Bool, true, false, cond, ◌&&◌, List, [], ◌∷◌, ◌++◌, length, map, Option, Some, None, refl, sym, ap, ◌∙◌, arith, length-append}
+use Rattle.std.specs.Prelude.{nat_le, nat_lt, ◌==◌}
+use Rattle.std.proofs.lemmas.Bool.{ne_eqb, lt-ltb}
 use Rattle.tspdef.specs.Paths.{Condition}
 use Rattle.certdef.specs.Items.{Item, title_line, size_line, length_line, tour_line, cuts_line, subtour_line, comb_line, handle_line, tooth_line, edge_line, clique_line, leaf_line, city_line, cut_line, condition_line, open_line, line, item_of}
 use Rattle.certdef.specs.Proofs.{Listed, subtour_cut, comb_cut, Proof, items, lines}
-use Rattle.certdef.specs.Tests.{form_only}
 use Rattle.certdef.specs.Verdicts.{Head, OpenDuals, Stage, wants_title, wants_size, wants_length, wants_tour, wants_count, wants_cut, wants_handle, wants_tooth, wants_trees, wants_duals, yes, Outcome, go, refused, after, with_cut, cuts_on, teeth_on, duals_on, with_city, with_cut_dual, with_condition, step, line_step, at_end, run, verdict_by, on_dual}
-use Rattle.certdef.specs.Forms.{Form, at_title, at_size, at_length, at_tour, at_count, at_cut, at_handle, at_tooth, at_trees, at_duals, cuts_then, teeth_then, duals_then, form_dual, form_step, with_next, item_next, line_next, with_item, items_after, items_read}
-use Rattle.certdef.specs.Laws.{ReadIsReadable}
+use Rattle.verdict.specs.Forms.{form_only, DualsLeft, Form, at_title, at_size, at_length, at_tour, at_count, at_cut, at_handle, at_tooth, at_trees, at_duals, cuts_then, teeth_then, duals_then, form_dual, form_step, with_next, item_next, line_next, with_item, items_after, items_read}
+use Rattle.verdict.specs.Laws.{ReadIsReadable}
 use Rattle.verdict.proofs.CutSteps.{after_last}
 use Rattle.verdict.proofs.Lines.{item_again}
 use Rattle.verdict.proofs.Runs.{AreOfForm}
 use Rattle.verdict.proofs.Values.{form_is_readable}
+
+-- what is left of a leaf at a stage of the machine
+abbrev left : OpenDuals → ℕ → ℕ → ℕ → DualsLeft
+left o a b c = record { a = a; b = b; c = c; city = after o.duals.cities; cut = after o.duals.cuts; depth = after o.duals.conds }
 
 abbrev form_of : Stage → Form
 form_of wants_title = at_title
@@ -23,7 +27,7 @@ form_of (wants_cut h m) = at_cut m (length h.cuts)
 form_of (wants_handle h m from t) = at_handle m (length h.cuts) t
 form_of (wants_tooth h m from t s ts) = at_tooth m (length h.cuts) t
 form_of (wants_trees h ps) = at_trees (length ps) (length h.cuts)
-form_of (wants_duals h ps o a b c) = at_duals (length ps) (length h.cuts) (record { a = a; b = b; c = c; city = after o.duals.cities; cut = after o.duals.cuts; depth = after o.duals.conds })
+form_of (wants_duals h ps o a b c) = at_duals (length ps) (length h.cuts) (left o a b c)
 
 abbrev form_after : Outcome → Option Form
 form_after (go s) = Some (form_of s)
@@ -43,17 +47,37 @@ teeth_form : (n at : ℕ) (h : Head) (m t : ℕ) (s : List ℕ) (ts : List (List
 teeth_form n at h m zero s ts = ap Some (cuts_more h (comb_cut s ts) m)
 teeth_form n at h m (suc t) s ts = refl
 
-duals_form : (n : ℕ) (h : Head) (ps : List (List Condition)) (o : OpenDuals) (a b c : ℕ) → form_after (duals_on (form_only n) h ps o a b c) ≡ Some (duals_then (length ps) (length h.cuts) a b c (after o.duals.cities) (after o.duals.cuts) (after o.duals.conds))
+-- whether a leaf has lines left
+zero_eq : (a : ℕ) → (suc a == 0) ≡ false
+zero_eq a = ne_eqb (suc a) 0 (λ e. omega arith)
+
+zero_lt : (a : ℕ) → nat_lt 0 (suc a) ≡ true
+zero_lt a = lt-ltb 0 (suc a) (omega arith)
+
+one_less : (a : ℕ) → suc a - 1 ≡ a
+one_less a = omega arith
+
+duals_form : (n : ℕ) (h : Head) (ps : List (List Condition)) (o : OpenDuals) (a b c : ℕ) → form_after (duals_on (form_only n) h ps o a b c) ≡ Some (duals_then (length ps) (length h.cuts) (left o a b c))
 duals_form n h ps o zero zero zero = refl
-duals_form n h ps o (suc a) b c = refl
-duals_form n h ps o zero (suc b) c = refl
-duals_form n h ps o zero zero (suc c) = refl
+duals_form n h ps o (suc a) b c = sym (ap (λ e. Some (cond (e && (b == 0 && c == 0)) (at_trees (length ps) (length h.cuts)) (at_duals (length ps) (length h.cuts) (left o (suc a) b c)))) (zero_eq a))
+duals_form n h ps o zero (suc b) c = sym (ap (λ e. Some (cond (e && c == 0) (at_trees (length ps) (length h.cuts)) (at_duals (length ps) (length h.cuts) (left o zero (suc b) c)))) (zero_eq b))
+duals_form n h ps o zero zero (suc c) = sym (ap (λ e. Some (cond e (at_trees (length ps) (length h.cuts)) (at_duals (length ps) (length h.cuts) (left o zero zero (suc c))))) (zero_eq c))
 
 chosen : (b : Bool) (o : Outcome) (f : Form) (at : ℕ) → form_after o ≡ Some f → cond b (Some f) None ≡ form_after (cond b o (refused 1 at))
 chosen true o f at e = sym e
 chosen false o f at e = refl
 
-city_form : (n : ℕ) (h : Head) (ps : List (List Condition)) (o : OpenDuals) (a b c at : ℕ) (x : Item) → form_dual (length ps) (length h.cuts) (suc a) b c (after o.duals.cities) (after o.duals.cuts) (after o.duals.conds) x ≡ form_after (on_dual (form_only n) h ps o (suc a) b c at x)
+-- the same where a test that is true stands before it
+behind_true : (t b : Bool) (f : Form) → t ≡ true → cond (t && b) (Some f) None ≡ cond b (Some f) None
+behind_true true b f e = refl
+behind_true false b f e = cc
+
+-- no line of another kind stands there
+past : (t b : Bool) (f : Form) → t ≡ false → cond (t && b) (Some f) None ≡ None
+past true b f e = cc
+past false b f e = refl
+
+city_form : (n : ℕ) (h : Head) (ps : List (List Condition)) (o : OpenDuals) (a b c at : ℕ) (x : Item) → form_dual (length ps) (length h.cuts) (left o (suc a) b c) x ≡ form_after (on_dual (form_only n) h ps o (suc a) b c at x)
 city_form n h ps o a b c at title_line = refl
 city_form n h ps o a b c at (size_line z1) = refl
 city_form n h ps o a b c at (length_line z1) = refl
@@ -66,13 +90,21 @@ city_form n h ps o a b c at (tooth_line z1) = refl
 city_form n h ps o a b c at (edge_line z1 z2) = refl
 city_form n h ps o a b c at (clique_line z1) = refl
 city_form n h ps o a b c at (leaf_line z1 z2 z3) = refl
-city_form n h ps o a b c at (city_line v w) = chosen (nat_le (after o.duals.cities) v) (duals_on (form_only n) h ps (with_city o v w) a b c) (duals_then (length ps) (length h.cuts) a b c (v + 1) (after o.duals.cuts) (after o.duals.conds)) at
-    (duals_form n h ps (with_city o v w) a b c ∙ ap (λ k. Some (duals_then (length ps) (length h.cuts) a b c k (after o.duals.cuts) (after o.duals.conds))) (after_last o.duals.cities (v, w)))
-city_form n h ps o a b c at (cut_line z1 z2) = refl
-city_form n h ps o a b c at (condition_line z1 z2) = refl
+city_form n h ps o a b c at (city_line v w) =
+    let r = length ps in
+    let k = length h.cuts in
+    let next : ℕ → Form = λ m. duals_then r k (record { a = m; b = b; c = c; city = v + 1; cut = after o.duals.cuts; depth = after o.duals.conds }) in
+    behind_true (nat_lt 0 (suc a)) (nat_le (after o.duals.cities) v) (next (suc a - 1)) (zero_lt a)
+    ∙ ap (λ m. cond (nat_le (after o.duals.cities) v) (Some (next m)) None) (one_less a)
+    ∙ chosen (nat_le (after o.duals.cities) v) (duals_on (form_only n) h ps (with_city o v w) a b c) (next a) at
+    (duals_form n h ps (with_city o v w) a b c ∙ ap (λ m. Some (duals_then r k (record { a = a; b = b; c = c; city = m; cut = after o.duals.cuts; depth = after o.duals.conds }))) (after_last o.duals.cities (v, w)))
+city_form n h ps o a b c at (cut_line v w) = past (suc a == 0) (nat_lt 0 b && (nat_le (after o.duals.cuts) v && nat_le v (length h.cuts)))
+    (duals_then (length ps) (length h.cuts) (record { a = suc a; b = b - 1; c = c; city = after o.duals.cities; cut = v + 1; depth = after o.duals.conds })) (zero_eq a)
+city_form n h ps o a b c at (condition_line v w) = past (suc a == 0) (b == 0 && (nat_lt 0 c && nat_le (after o.duals.conds) v))
+    (duals_then (length ps) (length h.cuts) (record { a = suc a; b = b; c = c - 1; city = after o.duals.cities; cut = after o.duals.cuts; depth = v + 1 })) (zero_eq a)
 city_form n h ps o a b c at open_line = refl
 
-cut_dual_form : (n : ℕ) (h : Head) (ps : List (List Condition)) (o : OpenDuals) (b c at : ℕ) (x : Item) → form_dual (length ps) (length h.cuts) zero (suc b) c (after o.duals.cities) (after o.duals.cuts) (after o.duals.conds) x ≡ form_after (on_dual (form_only n) h ps o zero (suc b) c at x)
+cut_dual_form : (n : ℕ) (h : Head) (ps : List (List Condition)) (o : OpenDuals) (b c at : ℕ) (x : Item) → form_dual (length ps) (length h.cuts) (left o zero (suc b) c) x ≡ form_after (on_dual (form_only n) h ps o zero (suc b) c at x)
 cut_dual_form n h ps o b c at title_line = refl
 cut_dual_form n h ps o b c at (size_line z1) = refl
 cut_dual_form n h ps o b c at (length_line z1) = refl
@@ -86,16 +118,24 @@ cut_dual_form n h ps o b c at (edge_line z1 z2) = refl
 cut_dual_form n h ps o b c at (clique_line z1) = refl
 cut_dual_form n h ps o b c at (leaf_line z1 z2 z3) = refl
 cut_dual_form n h ps o b c at (city_line z1 z2) = refl
-cut_dual_form n h ps o b c at (cut_line v w) = chosen (nat_le (after o.duals.cuts) v && nat_le v (length h.cuts)) (duals_on (form_only n) h ps (with_cut_dual o v w) zero b c) (duals_then (length ps) (length h.cuts) zero b c (after o.duals.cities) (v + 1) (after o.duals.conds)) at
-    (duals_form n h ps (with_cut_dual o v w) zero b c ∙ ap (λ k. Some (duals_then (length ps) (length h.cuts) zero b c (after o.duals.cities) k (after o.duals.conds))) (after_last o.duals.cuts (v, w)))
-cut_dual_form n h ps o b c at (condition_line z1 z2) = refl
+cut_dual_form n h ps o b c at (cut_line v w) =
+    let r = length ps in
+    let k = length h.cuts in
+    let test = nat_le (after o.duals.cuts) v && nat_le v k in
+    let next : ℕ → Form = λ m. duals_then r k (record { a = zero; b = m; c = c; city = after o.duals.cities; cut = v + 1; depth = after o.duals.conds }) in
+    behind_true (nat_lt 0 (suc b)) test (next (suc b - 1)) (zero_lt b)
+    ∙ ap (λ m. cond test (Some (next m)) None) (one_less b)
+    ∙ chosen test (duals_on (form_only n) h ps (with_cut_dual o v w) zero b c) (next b) at
+    (duals_form n h ps (with_cut_dual o v w) zero b c ∙ ap (λ m. Some (duals_then r k (record { a = zero; b = b; c = c; city = after o.duals.cities; cut = m; depth = after o.duals.conds }))) (after_last o.duals.cuts (v, w)))
+cut_dual_form n h ps o b c at (condition_line v w) = past (suc b == 0) (nat_lt 0 c && nat_le (after o.duals.conds) v)
+    (duals_then (length ps) (length h.cuts) (record { a = zero; b = suc b; c = c - 1; city = after o.duals.cities; cut = after o.duals.cuts; depth = v + 1 })) (zero_eq b)
 cut_dual_form n h ps o b c at open_line = refl
 
 both : (b : Bool) (o q : Outcome) → cond b o q ≡ cond (b && true) o q
 both true o q = refl
 both false o q = refl
 
-cond_dual_form : (n : ℕ) (h : Head) (ps : List (List Condition)) (o : OpenDuals) (c at : ℕ) (x : Item) → form_dual (length ps) (length h.cuts) zero zero (suc c) (after o.duals.cities) (after o.duals.cuts) (after o.duals.conds) x ≡ form_after (on_dual (form_only n) h ps o zero zero (suc c) at x)
+cond_dual_form : (n : ℕ) (h : Head) (ps : List (List Condition)) (o : OpenDuals) (c at : ℕ) (x : Item) → form_dual (length ps) (length h.cuts) (left o zero zero (suc c)) x ≡ form_after (on_dual (form_only n) h ps o zero zero (suc c) at x)
 cond_dual_form n h ps o c at title_line = refl
 cond_dual_form n h ps o c at (size_line z1) = refl
 cond_dual_form n h ps o c at (length_line z1) = refl
@@ -110,9 +150,16 @@ cond_dual_form n h ps o c at (clique_line z1) = refl
 cond_dual_form n h ps o c at (leaf_line z1 z2 z3) = refl
 cond_dual_form n h ps o c at (city_line z1 z2) = refl
 cond_dual_form n h ps o c at (cut_line z1 z2) = refl
-cond_dual_form n h ps o c at (condition_line v w) = chosen (nat_le (after o.duals.conds) v) (duals_on (form_only n) h ps (with_condition o v w) zero zero c) (duals_then (length ps) (length h.cuts) zero zero c (after o.duals.cities) (after o.duals.cuts) (v + 1)) at
-    (duals_form n h ps (with_condition o v w) zero zero c ∙ ap (λ k. Some (duals_then (length ps) (length h.cuts) zero zero c (after o.duals.cities) (after o.duals.cuts) k)) (after_last o.duals.conds (v, w)))
-    ∙ ap form_after (both (nat_le (after o.duals.conds) v) (duals_on (form_only n) h ps (with_condition o v w) zero zero c) (refused 1 at))
+cond_dual_form n h ps o c at (condition_line v w) =
+    let r = length ps in
+    let k = length h.cuts in
+    let test = nat_le (after o.duals.conds) v in
+    let next : ℕ → Form = λ m. duals_then r k (record { a = zero; b = zero; c = m; city = after o.duals.cities; cut = after o.duals.cuts; depth = v + 1 }) in
+    behind_true (nat_lt 0 (suc c)) test (next (suc c - 1)) (zero_lt c)
+    ∙ ap (λ m. cond test (Some (next m)) None) (one_less c)
+    ∙ chosen test (duals_on (form_only n) h ps (with_condition o v w) zero zero c) (next c) at
+    (duals_form n h ps (with_condition o v w) zero zero c ∙ ap (λ m. Some (duals_then r k (record { a = zero; b = zero; c = c; city = after o.duals.cities; cut = after o.duals.cuts; depth = m }))) (after_last o.duals.conds (v, w)))
+    ∙ ap form_after (both test (duals_on (form_only n) h ps (with_condition o v w) zero zero c) (refused 1 at))
 cond_dual_form n h ps o c at open_line = refl
 
 pub step_form : (n at : ℕ) (s : Stage) (x : Item) → form_step (form_of s) x ≡ form_after (step (form_only n) at s x)

@@ -13,7 +13,8 @@ use Rattle.certdef.specs.Items.{Item, edge_line, leaf_line, city_line, cut_line,
 use Rattle.certdef.specs.Proofs.{Listed, Duals, Written, open_leaf, closed_leaf, edge_split, clique_split, Proof, listed_items, city_item, cut_item, condition_item, dual_items, tree_items, lines}
 use Rattle.std.specs.List.{flat_map}
 use Rattle.certdef.specs.Accepted.{from_zero, cut_of, cuts_of, dual_of, duals_from, cut_at, closing_of, tree_of, firsts, is_clique, name_cliques, LeavesRise, DepthsName, IsReadable, HasForm, IsAcceptedProof}
-use Rattle.certdef.specs.Tests.{is_cut, verifier, form_only}
+use Rattle.certdef.specs.Tests.{is_cut, verifier}
+use Rattle.verdict.specs.Forms.{form_only}
 use Rattle.certdef.specs.Verdicts.{Head, yes, verdict_by}
 use Rattle.verdict.proofs.Left.{all_named, Good}
 use Rattle.verdict.proofs.Runs.{AreOfForm, AreGood, yes_is_good}
@@ -227,17 +228,14 @@ accepted i l ls (p, e, f, g) =
         lines = e;
         form = record { readable = record { lines = f; rise = tree.rise }; depths = tree.depths };
         accepted = record {
-          sound = record {
-            size = eqb-true p.cities i.n g.size;
-            same = g.same_length;
-            cuts = cuts;
-            from_one = tour.from_one;
+          about = record { size = eqb-true p.cities i.n g.size; same = g.same_length; cuts = cuts; from_one = tour.from_one };
+          accepted = record {
             is_tour = tour.is_tour;
             canonical = tour.canonical;
             long = sym (eqb-true (length_in i cs) l g.long);
             sound = tree.sound;
+            none_open = tree.none_open;
           };
-          none_open = tree.none_open;
         };
       },
     )
@@ -246,17 +244,18 @@ is_good : (i : Instance) (l : ℕ) (ls : List (List ℕ)) → AreAccepted i ls l
 is_good i l ls (p, k) =
     let cs = from_zero p.tour in
     let f = k.form in
-    let a = k.accepted.sound in (
+    let about = k.accepted.about in
+    let a = k.accepted.accepted in (
       p,
       k.lines,
       f.readable.lines,
       record {
-        size = eq-eqb p.cities i.n a.size;
-        same_length = a.same;
-        is_tour = yes_tour_from_one i.n p.tour a.from_one a.is_tour a.canonical;
+        size = eq-eqb p.cities i.n about.size;
+        same_length = about.same;
+        is_tour = yes_tour_from_one i.n p.tour about.from_one a.is_tour a.canonical;
         long = eq-eqb (length_in i cs) l (sym a.long);
-        cuts = yes_cuts i.n p.cuts a.cuts;
-        tree = yes_tree i (record { long = l; cuts = p.cuts }) [] p.tree f.readable.rise f.depths a.sound k.accepted.none_open;
+        cuts = yes_cuts i.n p.cuts about.cuts;
+        tree = yes_tree i (record { long = l; cuts = p.cuts }) [] p.tree f.readable.rise f.depths a.sound a.none_open;
       },
     )
 

@@ -2,7 +2,8 @@
 //! come in pieces, and a reader of the form alone gives exactly the items of a value. There is no program code in this crate.
 #![tactic(auto)]
 
-ghost use Rattle.certdef.specs.Laws.{LinesAreExact, YesIsAcceptedText, ReadsInPieces, ReadIsReadable};
+ghost use Rattle.verdict.specs.Laws.{LinesAreExact, YesIsAcceptedText, ReadsInPieces, ReadIsReadable};
+ghost use Rattle.verdict.specs.Decided.{ToursAreDecided, CanonicalIsDecided, ToursFromOneAreDecided, ProperIsDecided, CutsAreDecided, CliquesAreDecided, ClosedLeavesAreDecided};
 
 /// Bytes are the line of an item within its bounds exactly where they are read as that item.
 pub fn lines_are_exact()
@@ -22,4 +23,15 @@ pub fn reads_in_pieces()
 /// A reader of the form alone is at the end exactly after the lines of a value of the grammar, and gives its items.
 pub fn read_is_readable()
     ensures { ReadIsReadable }
+{}
+
+/// Each test of the machine is true exactly where the definition that it repeats holds.
+pub fn tests_decide()
+    ensures tours { ToursAreDecided }
+    ensures canonical { CanonicalIsDecided }
+    ensures tours_from_one { ToursFromOneAreDecided }
+    ensures proper { ProperIsDecided }
+    ensures cuts { CutsAreDecided }
+    ensures cliques { CliquesAreDecided }
+    ensures closed_leaves { ClosedLeavesAreDecided }
 {}

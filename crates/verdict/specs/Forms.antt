@@ -1,6 +1,8 @@
--- A reader of the form alone: it takes the lines of a text in order, and keeps counts in place of what it read.
-use Rattle.std.specs.Prelude.{ℕ, zero, suc, ◌+◌, Bool, true, false, ◌&&◌, nat_le, if◌then◌else◌, List, [], ◌∷◌, Option, Some, None}
+-- A reader of the form alone: it takes the lines of a text in order, and keeps counts in place of what it read. It leaves to its
+-- caller another number of cities, and what a depth names.
+use Rattle.std.specs.Prelude.{ℕ, zero, suc, ◌+◌, ◌-◌, Bool, true, false, ◌&&◌, ◌==◌, nat_lt, nat_le, if◌then◌else◌, List, [], ◌∷◌, Option, Some, None}
 use Rattle.certdef.specs.Items.{Item, title_line, size_line, length_line, tour_line, cuts_line, subtour_line, comb_line, handle_line, tooth_line, edge_line, clique_line, leaf_line, city_line, cut_line, condition_line, open_line, item_of}
+use Rattle.certdef.specs.Tests.{Tests}
 
 -- The lines of a leaf that are still to come, of each kind, and the least city, cut and depth that may come next.
 pub record DualsLeft : Type 0 where
@@ -36,22 +38,29 @@ teeth_then m k zero = cuts_then m (k + 1)
 teeth_then m k (suc t) = at_tooth m k t
 
 -- where a leaf has no lines left, the next tree comes
-abbrev pub duals_then : ℕ → ℕ → ℕ → ℕ → ℕ → ℕ → ℕ → ℕ → Form
-duals_then r k zero zero zero x y z = at_trees r k
-duals_then r k (suc a) b c x y z = at_duals r k (record { a = suc a; b = b; c = c; city = x; cut = y; depth = z })
-duals_then r k zero (suc b) c x y z = at_duals r k (record { a = zero; b = suc b; c = c; city = x; cut = y; depth = z })
-duals_then r k zero zero (suc c) x y z = at_duals r k (record { a = zero; b = zero; c = suc c; city = x; cut = y; depth = z })
+abbrev pub duals_then : ℕ → ℕ → DualsLeft → Form
+duals_then r k d = if d.a == 0 && (d.b == 0 && d.c == 0) then at_trees r k else at_duals r k d
 
-abbrev pub form_dual : ℕ → ℕ → ℕ → ℕ → ℕ → ℕ → ℕ → ℕ → Item → Option Form
-form_dual r k (suc a) b c x y z (city_line v w) = if nat_le x v then Some (duals_then r k a b c (v + 1) y z) else None
-form_dual r k zero (suc b) c x y z (cut_line v w) = if nat_le y v && nat_le v k then Some (duals_then r k zero b c x (v + 1) z) else None
-form_dual r k zero zero (suc c) x y z (condition_line v w) = if nat_le z v then Some (duals_then r k zero zero c x y (v + 1)) else None
-form_dual r k _ _ _ x y z _ = None
+-- the cities' duals come first, then those of cuts, then those of conditions; the numbers of each rise
+abbrev pub form_dual : ℕ → ℕ → DualsLeft → Item → Option Form
+form_dual r k d (city_line v w) =
+    if nat_lt 0 d.a && nat_le d.city v
+    then Some (duals_then r k (record { a = d.a - 1; b = d.b; c = d.c; city = v + 1; cut = d.cut; depth = d.depth }))
+    else None
+form_dual r k d (cut_line v w) =
+    if d.a == 0 && (nat_lt 0 d.b && (nat_le d.cut v && nat_le v k))
+    then Some (duals_then r k (record { a = d.a; b = d.b - 1; c = d.c; city = d.city; cut = v + 1; depth = d.depth }))
+    else None
+form_dual r k d (condition_line v w) =
+    if d.a == 0 && (d.b == 0 && (nat_lt 0 d.c && nat_le d.depth v))
+    then Some (duals_then r k (record { a = d.a; b = d.b; c = d.c - 1; city = d.city; cut = d.cut; depth = v + 1 }))
+    else None
+form_dual r k d _ = None
 
 abbrev pub form_tree : ℕ → ℕ → Item → Option Form
 form_tree r k (edge_line u v) = Some (at_trees (suc (suc r)) k)
 form_tree r k (clique_line s) = Some (at_trees (suc (suc r)) k)
-form_tree r k (leaf_line a b c) = Some (duals_then r k a b c 1 1 1)
+form_tree r k (leaf_line a b c) = Some (duals_then r k (record { a = a; b = b; c = c; city = 1; cut = 1; depth = 1 }))
 form_tree r k open_line = Some (at_trees r k)
 form_tree r k _ = None
 
@@ -79,7 +88,7 @@ form_step (at_tooth m k t) (tooth_line s) = Some (teeth_then m k t)
 form_step (at_tooth m k t) _ = None
 form_step (at_trees zero k) x = None
 form_step (at_trees (suc r) k) x = form_tree r k x
-form_step (at_duals r k d) i = form_dual r k d.a d.b d.c d.city d.cut d.depth i
+form_step (at_duals r k d) x = form_dual r k d x
 
 -- the item of a line and what comes after it, where the line stands at its place
 abbrev pub with_next : Item → Option Form → Option (Item × Form)
@@ -111,3 +120,20 @@ items_read n (l ∷ ls) = items_after n (line_next n at_title l) ls
 abbrev pub is_ended : Form → Bool
 is_ended (at_trees zero k) = true
 is_ended _ = false
+
+-- ---- the same reader, as a machine of `certdef` that keeps what it read
+
+-- the tests of a reader of the form alone, for n cities
+abbrev pub form_only : ℕ → Tests
+form_only n = record {
+  n = n;
+  size = λ m. true;
+  tour = λ cs. true;
+  has_length = λ cs l. true;
+  cut = λ c. true;
+  decided = λ path u v. false;
+  proper = λ s. true;
+  names = λ path d. true;
+  closes = λ l cs path d. true;
+  opens = true;
+}
