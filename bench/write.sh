@@ -8,7 +8,7 @@
 set -eu
 top=$(cd "$(dirname "$0")/.." && pwd)
 . "$top/bench/workspace.sh"
-workspace writebench 'certform plainsearch treebook pricer branchx cutform cyc tspinst distx anyhow'
+workspace writebench 'tspdef cyc distx tspinst neigh linkern cutform branchx pricer lpcheck simplex treebook pathtour opening worker treesearch certform anyhow'
 cat >"$work/crates/writebench/src/main.rt" <<'RT'
 //! writebench: times the writing of two bodies. Prints for each its name, its bytes and the best time in microseconds.
 #![tactic(auto)]
@@ -19,23 +19,25 @@ use certform::body;
 use cutform::Cut;
 use cyc::{CitySet, Tour};
 use distx::{Kind, Point};
-use plainsearch::search;
+use opening::find_opening;
 use pricer::{Closing, Fit};
 use std::alloc::Global;
 use std::time::Instant;
 use treebook::{State, Tree};
+use treesearch::search;
 use tspinst::{Instance, from_points};
+use worker::PlainWorker;
 
 const N: u32 = 2000;
 
-/// The next of some numbers that look drawn.
+/// The next pseudo-random number.
 fn next(state: u64) -> u64 {
     state
         .wrapping_mul(6_364_136_223_846_793_005)
         .wrapping_add(1_442_695_040_888_963_407)
 }
 
-/// So many points that look drawn.
+/// So many pseudo-random points.
 fn instance(alloc: Global, n: u32) -> Result<Instance> {
     let mut points = Vec::new(alloc);
     let mut state = 1u64;
@@ -132,7 +134,8 @@ fn time(rt: &HostRuntime, instance: &Instance, tour: &Tour, tree: &Tree) -> Resu
 
 fn searched(rt: &HostRuntime) -> Result<()> {
     let instance = instance(rt.alloc(), 200)?;
-    let found = search(rt.alloc(), &instance, 65536)?;
+    let opening = find_opening(rt.alloc(), &instance, 1)?;
+    let found = search(rt.alloc(), &instance, opening, &PlainWorker, 65536, 1)?;
     let (bytes, best) = time(rt, &instance, &found.best, &found.tree)?;
     println!(rt; "search {bytes} {best}")?;
     Ok(())

@@ -1,4 +1,4 @@
--- From settled pairs to a tour at rest.
+-- From pairs at rest to a tour at rest.
 use Rattle.std.proofs.Common.{◌≡◌, ℕ, suc, ◌+◌, ◌<◌, ◌≤◌, true, false, eqb, List, [], ◌∷◌, length, get_or, sym, subst, arith, ⊎_elim}
 use Rattle.std.proofs.lemmas.Bool.{or_cases, eqb-true}
 use Rattle.tspdef.specs.Sets.{has}
@@ -8,8 +8,8 @@ use Rattle.tspdef.proofs.Duality.{dist-sym}
 use Rattle.neigh.specs.Near.{Near, near_to}
 use Rattle.flips.specs.Cycles.{Follows, IsFlipped}
 use Rattle.flips.proofs.Bridges.{next_is_one, previous_is_one, steps_are_within, flip_length}
-use Rattle.linkern.specs.declared.settle.Exchange.{Exchange}
-use Rattle.linkern.specs.Exchanges.{Gains, IsSettled}
+use Rattle.linkern.specs.declared.resting.Exchange.{Exchange}
+use Rattle.linkern.specs.Exchanges.{Gains, IsPairAtRest}
 use Rattle.linkern.specs.Rests.{are_near, IsAtRest}
 
 pub two_before : (n : ℕ) (tour : List ℕ) (a c p q : ℕ) → IsTour n tour → Follows tour p a → Follows tour q c → (a ≡ c → ⊥) → p ≡ q → ⊥
@@ -18,9 +18,9 @@ two_before n tour a c p q t f g ne e = ne (next_is_one n tour q a c t (subst (λ
 pub two_after : (n : ℕ) (tour : List ℕ) (a c b d : ℕ) → IsTour n tour → Follows tour a b → Follows tour c d → (a ≡ c → ⊥) → b ≡ d → ⊥
 two_after n tour a c b d t f g ne e = ne (previous_is_one n tour d a c t (subst (λ v. Follows tour a v) e f) g)
 
-pub settled_from : (i : Instance) (n : ℕ) (tour : List ℕ) (a c b d p q : ℕ) → IsTour n tour → Follows tour a b → Follows tour c d → Follows tour p a → Follows tour q c
-    → dist i a b + dist i c d ≤ dist i a c + dist i b d → dist i p a + dist i q c ≤ dist i p q + dist i a c → IsSettled i tour a c
-settled_from i n tour a c b d p q t fb fd fp fq ahead behind = record {
+pub pair_rests : (i : Instance) (n : ℕ) (tour : List ℕ) (a c b d p q : ℕ) → IsTour n tour → Follows tour a b → Follows tour c d → Follows tour p a → Follows tour q c
+    → dist i a b + dist i c d ≤ dist i a c + dist i b d → dist i p a + dist i q c ≤ dist i p q + dist i a c → IsPairAtRest i tour a c
+pair_rests i n tour a c b d p q t fb fd fp fq ahead behind = record {
   ahead = λ y z ne f g.
       let e = next_is_one n tour a b y t fb f in
       let h = next_is_one n tour c d z t fd g in
@@ -31,17 +31,17 @@ settled_from i n tour a c b d p q t fb fd fp fq ahead behind = record {
       subst (λ v. dist i y a + dist i v c ≤ dist i y v + dist i a c) h (subst (λ v. dist i v a + dist i q c ≤ dist i v q + dist i a c) e behind);
 }
 
-pub settled_itself : (i : Instance) (tour : List ℕ) (a c : ℕ) → a ≡ c → IsSettled i tour a c
-settled_itself i tour a c e = record { ahead = λ y z ne f g. absurd (ne e); behind = λ y z ne f g. absurd (ne e) }
+pub pair_with_itself_rests : (i : Instance) (tour : List ℕ) (a c : ℕ) → a ≡ c → IsPairAtRest i tour a c
+pair_with_itself_rests i tour a c e = record { ahead = λ y z ne f g. absurd (ne e); behind = λ y z ne f g. absurd (ne e) }
 
 pub gain_shortens : (i : Instance) (n : ℕ) (old new : List ℕ) (x : Exchange) → IsTour n old → Gains i old x → IsFlipped old new x.b x.c → length_in i new < length_in i old
 gain_shortens i n old new x t w f =
     let l = flip_length (dist i) n old new x.a x.b x.c x.d (dist-sym i) t w.into w.out_of w.two f in
     let h = w.gain in omega arith
 
--- where each listed pair is settled the tour is at rest
+-- where each listed pair is at rest the tour is at rest
 pub rest_from : (i : Instance) (near : Near) (n : ℕ) (tour : List ℕ) → IsTour n tour
-    → ((a c : ℕ) → a < n → has (near_to near a) c ≡ true → IsSettled i tour a c) → IsAtRest i near tour
+    → ((a c : ℕ) → a < n → has (near_to near a) c ≡ true → IsPairAtRest i tour a c) → IsAtRest i near tour
 rest_from i near n tour t all = λ a b c d f g ne l.
     let fi = steps_are_within n tour a b t f in
     let gi = steps_are_within n tour c d t g in

@@ -79,7 +79,7 @@ impl<'a> Work<'a> {
     }
 
     /// Works at a city until nothing more is found there; by how much the tour became shorter.
-    fn settle_at(&mut self, a: u32) -> Result<i64, AllocError> {
+    fn search_at(&mut self, a: u32) -> Result<i64, AllocError> {
         let mut all: i64 = 0;
         for _ in 0..1_000_000u32 {
             let gain = self.better(a)?;
@@ -101,7 +101,7 @@ impl<'a> Work<'a> {
             if let Some(waits) = self.waits.get_mut(a as usize) {
                 *waits = false;
             }
-            all = all.wrapping_add(self.settle_at(a)?);
+            all = all.wrapping_add(self.search_at(a)?);
         }
         self.queue.clear();
         Ok(all)

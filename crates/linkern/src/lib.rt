@@ -11,8 +11,8 @@ ghost use Rattle.linkern.specs.Rests.{IsAtRest};
 
 mod ground;
 mod kicks;
+mod resting;
 mod search;
-mod settle;
 
 use cyc::Tour;
 use flips::ArrayTour;
@@ -63,7 +63,7 @@ pub fn improve(
 {
     let found = kicks::searched(alloc, instance, near, tour, kicks, seed)?;
     let mut best = no_longer(alloc, instance, found, tour)?;
-    settle::settle(instance, near, &mut best);
+    resting::bring_to_rest(instance, near, &mut best);
     let _n = best.n();
     best.tour(alloc)
 }

@@ -1,11 +1,11 @@
 -- What a desk tells.
-use Rattle.std.specs.Prelude.{◌≡◌, ℕ, List, [], ◌++◌, drop, Option, Some}
+use Rattle.std.specs.Prelude.{◌≡◌, ℕ, ◌+◌, List, [], ◌++◌, drop, Option, Some}
 use Rattle.ports.specs.declared.desk.Inlet.{Inlet}
 use Rattle.ports.specs.declared.desk.Inlet.TheVariants as inlet
 use Rattle.ports.specs.declared.desk.Outlet.{Outlet}
 use Rattle.ports.specs.declared.desk.Outlet.TheVariants as outlet
 
--- the bytes left for each inlet, the bytes taken by each outlet, and the paths last bound
+-- the bytes left for each inlet, the bytes taken by each outlet, the paths last bound, and how often each was bound
 pub record Told : Type 0 where
   pub instance : List ℕ
   pub proof_in : List ℕ
@@ -14,6 +14,9 @@ pub record Told : Type 0 where
   pub instance_path : Option (List ℕ)
   pub proof_in_path : Option (List ℕ)
   pub proof_out_path : Option (List ℕ)
+  pub instance_binds : ℕ
+  pub proof_in_binds : ℕ
+  pub proof_out_binds : ℕ
 
 -- the bytes left for an inlet
 abbrev pub left : Inlet → Told → List ℕ
@@ -40,14 +43,19 @@ abbrev pub inlet_path : Inlet → Told → Option (List ℕ)
 inlet_path inlet.Instance t = t.instance_path
 inlet_path inlet.Proof t = t.proof_in_path
 
--- the same but for one inlet's path
-abbrev pub with_inlet_path : Inlet → List ℕ → Told → Told
-with_inlet_path inlet.Instance path t = record t { instance_path = Some path }
-with_inlet_path inlet.Proof path t = record t { proof_in_path = Some path }
+-- how often an inlet was bound
+abbrev pub inlet_binds : Inlet → Told → ℕ
+inlet_binds inlet.Instance t = t.instance_binds
+inlet_binds inlet.Proof t = t.proof_in_binds
 
--- the same but for the path of the outlet that can be bound
+-- the same but for one inlet's path, and one bind of it more
+abbrev pub with_inlet_path : Inlet → List ℕ → Told → Told
+with_inlet_path inlet.Instance path t = record t { instance_path = Some path; instance_binds = t.instance_binds + 1 }
+with_inlet_path inlet.Proof path t = record t { proof_in_path = Some path; proof_in_binds = t.proof_in_binds + 1 }
+
+-- the same but for the path of the outlet that can be bound, and one bind of it more
 abbrev pub with_outlet_path : List ℕ → Told → Told
-with_outlet_path path t = record t { proof_out_path = Some path }
+with_outlet_path path t = record t { proof_out_path = Some path; proof_out_binds = t.proof_out_binds + 1 }
 
 -- an inlet had these bytes in front and has the rest left, and nothing else changed
 pub record Takes (from : Inlet) (bytes : List ℕ) (old new : Told) : Type 0 where

@@ -17,6 +17,9 @@ told_of d = record {
   instance_path = path_if d.instance_path.is_bound d.instance_path.bytes.items;
   proof_in_path = path_if d.proof_in_path.is_bound d.proof_in_path.bytes.items;
   proof_out_path = path_if d.proof_out_path.is_bound d.proof_out_path.bytes.items;
+  instance_binds = d.instance_path.binds;
+  proof_in_binds = d.proof_in_path.binds;
+  proof_out_binds = d.proof_out_path.binds;
 }
 
 -- what it was made with: the greatest sizes of a read and a write, and the numbers of the calls that fail

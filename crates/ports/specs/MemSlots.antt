@@ -15,6 +15,7 @@ told_of s = record {
   slot0 = record { bytes = s.slot0.items; unsynced = unsynced_of 0 s.entries.items };
   slot1 = record { bytes = s.slot1.items; unsynced = unsynced_of 1 s.entries.items };
   path = path_if s.is_bound (rest_from s.path_at s.paths.items);
+  binds = s.binds;
 }
 
 -- the calls that are to fail
@@ -56,8 +57,9 @@ room_for slot pos len s = write_room pos len (length (slot_of slot (told_of s)).
 abbrev pub write_fails : ℕ → ℕ → ℕ → MemSlots → Bool
 write_fails slot pos len s = call_fails kind.Write s || nat_lt (room_of s).bytes (room_for slot pos len s)
 
--- the bytes of both slots and the path are as before
+-- the bytes of both slots, the path and the count of binds are as before
 pub record IsUnmoved (old new : SlotsTold) : Type 0 where
   pub slot0 : new.slot0.bytes ≡ old.slot0.bytes
   pub slot1 : new.slot1.bytes ≡ old.slot1.bytes
   pub path : new.path ≡ old.path
+  pub binds : new.binds ≡ old.binds

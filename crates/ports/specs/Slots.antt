@@ -15,11 +15,12 @@ pub record SlotTold : Type 0 where
   pub bytes : List ℕ
   pub unsynced : List Range
 
--- what slots tell: the two slots, and the path last bound
+-- what slots tell: the two slots, the path last bound, and how often one was bound
 pub record SlotsTold : Type 0 where
   pub slot0 : SlotTold
   pub slot1 : SlotTold
   pub path : Option (List ℕ)
+  pub binds : ℕ
 
 -- one of the slots
 abbrev pub slot_of : ℕ → SlotsTold → SlotTold
@@ -29,9 +30,9 @@ slot_of slot t = if slot == 0 then t.slot0 else t.slot1
 abbrev pub with_slot : ℕ → SlotTold → SlotsTold → SlotsTold
 with_slot slot s t = if slot == 0 then record t { slot0 = s } else record t { slot1 = s }
 
--- the same but for the path
+-- the same but for the path, and one bind more
 abbrev pub with_path : List ℕ → SlotsTold → SlotsTold
-with_path path t = record t { path = Some path }
+with_path path t = record t { path = Some path; binds = t.binds + 1 }
 
 -- bytes with a piece written over them at a place, behind zeros where it lies past their end; to write nothing changes nothing
 abbrev pub put_at : ℕ → List ℕ → List ℕ → List ℕ

@@ -1,5 +1,5 @@
 //! Byte lists that are read from the front, or grow within their capacity.
-ghost use Rattle.std.specs.Prelude.{◌≡◌, ◌+◌, ◌-◌, ◌≤◌, ◌++◌, min, max, replicate, take, drop, length, vec_len, vec_capacity, IfOk, Some, None};
+ghost use Rattle.std.specs.Prelude.{◌≡◌, ◌+◌, ◌-◌, ◌^◌, ◌<◌, ◌≤◌, ◌++◌, min, max, replicate, take, drop, length, vec_len, vec_capacity, IfOk, Some, None};
 ghost use Rattle.std.specs.Option.{option_map};
 ghost use Rattle.ports.specs.Buffers.{rest_from, path_if};
 ghost use Rattle.ports.specs.Slots.{put_at};
@@ -103,34 +103,40 @@ pub fn put(list: &mut Vec<u8>, pos: usize, piece: &[u8])
     overwrite(list, pos, piece);
 }
 
-/// The path that was last bound, kept in room that was made before.
+/// The path that was last bound, kept in room that was made before, and how often one was bound.
 #[derive(Drop)]
 pub struct BoundPath {
     pub bytes: Vec<u8>,
     pub is_bound: bool,
+    pub binds: u64,
 }
 
 impl BoundPath {
     /// Nothing is bound, and there is room for paths up to this length.
     pub fn new(alloc: Global, room: usize) -> Result<BoundPath, AllocError>
         ensures unbound { IfOk result (λ bound. path_if bound.is_bound bound.bytes.items ≡ None) }
+        ensures binds { IfOk result (λ bound. bound.binds ≡ 0) }
         ensures capacity { IfOk result (λ bound. room ≤ vec_capacity bound.bytes) }
     {
         Ok(BoundPath {
             bytes: Vec::with_capacity(alloc, room)?,
             is_bound: false,
+            binds: 0,
         })
     }
 
     /// Binds another path.
     pub fn set(&mut self, path: &str)
-        requires { length path.now ≤ vec_capacity self.old.bytes }
+        requires fits { length path.now ≤ vec_capacity self.old.bytes }
+        requires countable { self.old.binds + 1 < 2 ^ 64 }
+        ensures binds { self.new.binds ≡ self.old.binds + 1 }
         ensures bound { path_if self.new.is_bound self.new.bytes.items ≡ Some path.now }
         ensures capacity { vec_capacity self.old.bytes ≤ vec_capacity self.new.bytes }
     {
         self.bytes.clear();
         append(&mut self.bytes, path.as_bytes());
         self.is_bound = true;
+        self.binds += 1;
     }
 
     /// The path, if one is bound.

@@ -38,7 +38,8 @@ impl Error for Failed {}
 /// No call changes whether it tells. A call that fails changes nothing that is told, and one that succeeds
 /// changes only what it names. The counts never fall, and a call fails only where its count rose.
 pub trait Desk {
-    /// The bytes left for each inlet, the bytes taken by each outlet and the paths last bound, if they are told.
+    /// The bytes left for each inlet, the bytes taken by each outlet, the paths last bound and how often each was
+    /// bound, if they are told.
     ghost told: { Self → Option Told };
 
     /// How often `bind_in` and `read` have failed; a count at 2^64 - 1 stays there.
@@ -47,14 +48,15 @@ pub trait Desk {
     /// How often `bind_out` and `write` have failed; a count at 2^64 - 1 stays there.
     ghost write_faults: { Self → ℕ };
 
-    /// Ties an inlet to a path.
+    /// Ties an inlet to a path, and counts that; a bind that fails changes nothing that is told.
     fn bind_in(&mut self, from: Inlet, path: &str) -> Result<(), Failed>
         ensures bound { OnOk result (BothTell (λ t u. u ≡ with_inlet_path from path.now t) (told self.old) (told self.new)) }
         ensures err { OnErr result (told self.new ≡ told self.old) }
         ensures cause { Cause (IsErr result) (read_faults self.old) (read_faults self.new) }
         ensures same { write_faults self.new ≡ write_faults self.old };
 
-    /// Ties an outlet to a path. `Outlet::Text` is never bound.
+    /// Ties an outlet to a path, and counts that; a bind that fails changes nothing that is told. `Outlet::Text` is
+    /// never bound.
     fn bind_out(&mut self, to: Outlet, path: &str) -> Result<(), Failed>
         requires { to ≡ Outlet.Proof }
         ensures bound { OnOk result (BothTell (λ t u. u ≡ with_outlet_path path.now t) (told self.old) (told self.new)) }

@@ -39,13 +39,16 @@ pub struct MemDesk {
     ghost instance_path_fits: { room.paths ≤ vec_capacity instance_path.bytes },
     ghost proof_in_path_fits: { room.paths ≤ vec_capacity proof_in_path.bytes },
     ghost proof_out_path_fits: { room.paths ≤ vec_capacity proof_out_path.bytes },
+    ghost instance_binds: { instance_path.binds ≤ binds },
+    ghost proof_in_binds: { proof_in_path.binds ≤ binds },
+    ghost proof_out_binds: { proof_out_path.binds ≤ binds },
     ghost countable: { binds + reads + writes + room.calls < 2 ^ 64 },
 }
 
 impl MemDesk {
     ghost use Rattle.std.specs.Prelude.{IfOk, [], None};
     ghost use Rattle.std.specs.Option.{option_map};
-    ghost use Rattle.ports.specs.Desk.{left, inlet_path};
+    ghost use Rattle.ports.specs.Desk.{left, inlet_path, inlet_binds};
     ghost use Rattle.ports.specs.MemDesk.{told_of, plan_of, made_of, room_of, read_faults_of, write_faults_of};
 
     /// A desk with these bytes to read, where a read gives at most `most_read` bytes and a write takes at most
@@ -72,6 +75,9 @@ impl MemDesk {
           instance_path = None;
           proof_in_path = None;
           proof_out_path = None;
+          instance_binds = 0;
+          proof_in_binds = 0;
+          proof_out_binds = 0;
         }) }
         ensures plan { IfOk result (λ desk. plan_of desk ≡ record {
           most_read = most_read;
@@ -141,11 +147,28 @@ impl MemDesk {
         }
     }
 
+    /// How often an inlet was bound; a bind that failed is not counted.
+    pub fn inlet_binds(&self, from: Inlet) -> u64
+        ensures { result ≡ inlet_binds from (told_of self.now) }
+    {
+        match from {
+            Inlet::Instance => self.instance_path.binds,
+            Inlet::Proof => self.proof_in_path.binds,
+        }
+    }
+
     /// The path last bound to `Outlet::Proof`.
     pub fn proof_path(&self) -> Option<&[u8]>
         ensures { option_map (λ path. path.now) result ≡ (told_of self.now).proof_out_path }
     {
         self.proof_out_path.path()
+    }
+
+    /// How often `Outlet::Proof` was bound; a bind that failed is not counted.
+    pub fn proof_binds(&self) -> u64
+        ensures { result ≡ (told_of self.now).proof_out_binds }
+    {
+        self.proof_out_path.binds
     }
 
     /// How often `bind_in` and `read` have failed.

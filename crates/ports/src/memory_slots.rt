@@ -24,6 +24,7 @@ pub struct MemSlots {
     paths: Vec<u8>,
     path_at: usize,
     is_bound: bool,
+    binds: u64,
     room: Room,
     faults: u64,
     ghost slot0_fits: { vec_len slot0 + room.bytes ≤ vec_capacity slot0 },
@@ -31,6 +32,7 @@ pub struct MemSlots {
     ghost written_fits: { vec_len written + room.bytes ≤ vec_capacity written },
     ghost paths_fit: { vec_len paths + room.paths ≤ vec_capacity paths },
     ghost entries_fit: { vec_len entries + room.calls ≤ vec_capacity entries },
+    ghost countable: { binds + room.calls < 2 ^ 64 },
     ghost path_within: { path_at ≤ vec_len paths },
 }
 
@@ -70,6 +72,7 @@ impl MemSlots {
           slot0 = record { bytes = slot0.now; unsynced = [] };
           slot1 = record { bytes = slot1.now; unsynced = [] };
           path = Option.None;
+          binds = 0;
         }) }
         ensures bad { IfOk result (λ slots. bad_of slots ≡ bad.now) }
         ensures entries { IfOk result (λ slots. entries_of slots ≡ []) }
@@ -87,6 +90,7 @@ impl MemSlots {
             paths: Vec::with_capacity(alloc, room.paths)?,
             path_at: 0,
             is_bound: false,
+            binds: 0,
             room,
             faults: 0,
         })
@@ -109,6 +113,13 @@ impl MemSlots {
         } else {
             None
         }
+    }
+
+    /// How often a path was bound; a bind that failed is not counted.
+    pub fn binds(&self) -> u64
+        ensures { result ≡ (told_of self.now).binds }
+    {
+        self.binds
     }
 
     /// The record of the calls, oldest first.
@@ -200,6 +211,7 @@ impl Slots for MemSlots {
         self.room.paths -= len;
         self.path_at = self.paths.len();
         self.is_bound = true;
+        self.binds += 1;
         append(&mut self.paths, path.as_bytes());
         Ok(())
     }

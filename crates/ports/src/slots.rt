@@ -11,13 +11,15 @@ use crate::Failed;
 /// changes whether they tell, and a call changes only the slot or the path that it names. The count never
 /// falls, and a call fails only where it rose.
 pub trait Slots {
-    /// What reads give, the ranges that are not synced and the path last bound, if they are told.
+    /// What reads give, the ranges that are not synced, the path last bound and how often one was bound, if they
+    /// are told.
     ghost told: { Self → Option SlotsTold };
 
     /// How often a call has failed; a count at 2^64 - 1 stays there.
     ghost faults: { Self → ℕ };
 
-    /// Ties the slots to a path. No byte that is told changes.
+    /// Ties the slots to a path, and counts that. No byte that is told changes; a bind that fails changes nothing
+    /// that is told.
     fn bind(&mut self, path: &str) -> Result<(), Failed>
         ensures bound { OnOk result (BothTell (λ t u. u ≡ with_path path.now t) (told self.old) (told self.new)) }
         ensures err { OnErr result (told self.new ≡ told self.old) }

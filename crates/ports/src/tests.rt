@@ -116,10 +116,11 @@ fn a_desk_binds_as_long_as_there_is_room(rt: HostRuntime) -> Result<(), Fail> {
     let room = Room {
         bytes: 0,
         paths: 3,
-        calls: 4,
+        calls: 5,
     };
-    let mut desk = MemDesk::new(rt.alloc(), b"", b"ab", 9, 9, &[2], &[], &[], room)?;
+    let mut desk = MemDesk::new(rt.alloc(), b"", b"ab", 9, 9, &[3], &[], &[], room)?;
     for (from, path, works) in [
+        (Some(Inlet::Proof), "", true),
         (Some(Inlet::Proof), "in", true),
         (Some(Inlet::Instance), "x", false),
         (None, "xy", false),
@@ -134,6 +135,9 @@ fn a_desk_binds_as_long_as_there_is_room(rt: HostRuntime) -> Result<(), Fail> {
     );
     assert_eq!(rt; desk.inlet_path(Inlet::Instance).is_none(), true);
     assert_eq!(rt; desk.proof_path().unwrap_or(b"none"), b"x".as_slice());
+    assert_eq!(rt; desk.inlet_binds(Inlet::Proof), 2);
+    assert_eq!(rt; desk.inlet_binds(Inlet::Instance), 0);
+    assert_eq!(rt; desk.proof_binds(), 1);
     assert_eq!(rt; desk.left(Inlet::Proof), b"ab".as_slice());
     assert_eq!(rt; (desk.read_faults(), desk.write_faults()), (1, 2));
     Ok(())
@@ -191,6 +195,7 @@ fn named_slot_calls_fail(rt: HostRuntime) -> Result<(), Fail> {
     assert_eq!(rt; slots.slot(1), b"\0\0yes".as_slice());
     assert_eq!(rt; slots.written(), b"xyzyes".as_slice());
     assert_eq!(rt; slots.path().unwrap_or(b"none"), b"p".as_slice());
+    assert_eq!(rt; slots.binds(), 1);
     assert_eq!(rt; slots.faults(), 2);
     let read = SlotEntry {
         call: SlotCall::Read,
@@ -245,7 +250,7 @@ fn slots_run_out_of_room(rt: HostRuntime) -> Result<(), Fail> {
         assert_eq!(rt; call(&mut slots, kind, slot, pos, text), works, "{text}");
     }
     assert_eq!(rt; slots.slot(0), b"ab\0\0xy".as_slice());
-    assert_eq!(rt; slots.faults(), 3);
+    assert_eq!(rt; (slots.faults(), slots.binds()), (3, 0));
     assert_eq!(rt; slots.entries().len(), 4);
     Ok(())
 }

@@ -10,3 +10,4 @@ pub mod Decisions
 pub mod Values
 pub mod Bytes
 pub mod Forms
+pub mod Spellings

@@ -3,6 +3,7 @@
 #![tactic(auto)]
 
 ghost use Rattle.verdict.specs.Laws.{LinesAreExact, YesIsAcceptedText, ReadsInPieces, ReadIsReadable};
+ghost use Rattle.verdict.specs.Spellings.{SpellingsAreApart, NoTextBeginsAnother, BytesHaveOneValue};
 ghost use Rattle.verdict.specs.Decided.{ToursAreDecided, CanonicalIsDecided, ToursFromOneAreDecided, ProperIsDecided, CutsAreDecided, CliquesAreDecided, ClosedLeavesAreDecided};
 
 /// Bytes are the line of an item within its bounds exactly where they are read as that item.
@@ -34,4 +35,11 @@ pub fn tests_decide()
     ensures cuts { CutsAreDecided }
     ensures cliques { CliquesAreDecided }
     ensures closed_leaves { ClosedLeavesAreDecided }
+{}
+
+/// No text of a value of the grammar begins that of another one, and bytes are the text of at most one value.
+pub fn spellings_are_apart()
+    ensures apart { SpellingsAreApart }
+    ensures begins { NoTextBeginsAnother }
+    ensures one { BytesHaveOneValue }
 {}

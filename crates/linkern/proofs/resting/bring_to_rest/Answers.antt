@@ -1,8 +1,8 @@
 use Rattle.std.proofs.Common.{◌<◌, ◌≤◌, ℕ, length, arith, ◌∙◌}
 use Rattle.tspdef.specs.Instances.{length_in}
 use Rattle.linkern.proofs.RestLemmas.{gain_shortens}
-use Rattle.linkern.proofs.settle.settle.Goals as goal
-use Rattle.linkern.proofs.settle.settle.Goals.{After-flip}
+use Rattle.linkern.proofs.resting.bring_to_rest.Goals as goal
+use Rattle.linkern.proofs.resting.bring_to_rest.Goals.{After-flip}
 
 shorter : (c : After-flip) → length_in c.args.instance.now c.flip.new.self < length_in c.args.instance.now c.loop-x.tour
 shorter c = gain_shortens c.args.instance.now (length c.loop-x.tour) c.loop-x.tour c.flip.new.self c.in-Some.x c.gain.ensures.tour c.in-Some.ensures.found c.flip.ensures.flips

@@ -1,6 +1,6 @@
 use Rattle.std.proofs.Common.{◌≡◌, ◌≤◌, length}
 use Rattle.tspdef.specs.Instances.{length_in}
-use Rattle.linkern.proofs.settle.settle.Given as goal
+use Rattle.linkern.proofs.resting.bring_to_rest.Given as goal
 
 abbrev pub invariant-loop-x : goal.invariant-loop-x
 invariant-loop-x l = record {

@@ -5,7 +5,7 @@ ghost use Rattle.tspdef.specs.Sets.{has};
 ghost use Rattle.tspdef.specs.Tours.{IsTour};
 ghost use Rattle.tspdef.specs.Instances.{length_in};
 ghost use Rattle.neigh.specs.Near.{near_to};
-ghost use Rattle.linkern.specs.Exchanges.{Gains, IsSettled};
+ghost use Rattle.linkern.specs.Exchanges.{Gains, IsPairAtRest};
 ghost use Rattle.linkern.specs.Rests.{IsAtRest};
 
 use flips::ArrayTour;
@@ -27,7 +27,7 @@ fn gain_at(instance: &Instance, tour: &ArrayTour, a: u32, c: u32) -> Option<Exch
     requires first { a < length tour.now }
     requires second { c < length tour.now }
     requires cities { instance.now.n ≡ length tour.now }
-    ensures { MatchOption result (IsSettled instance.now tour.now a c) (λ x. Gains instance.now tour.now x) }
+    ensures { MatchOption result (IsPairAtRest instance.now tour.now a c) (λ x. Gains instance.now tour.now x) }
 {
     if a == c {
         return None;
@@ -57,7 +57,7 @@ fn gain_near(instance: &Instance, near: &Neigh, tour: &ArrayTour, a: u32) -> Opt
     requires city { a < length tour.now }
     requires cities { instance.now.n ≡ length tour.now }
     requires lists { near.now.n ≡ length tour.now }
-    ensures { MatchOption result ((c : ℕ) → has (near_to near.now a) c ≡ true → IsSettled instance.now tour.now a c)
+    ensures { MatchOption result ((c : ℕ) → has (near_to near.now a) c ≡ true → IsPairAtRest instance.now tour.now a c)
         (λ x. Gains instance.now tour.now x) }
 {
     let list = near.of(a);
@@ -86,7 +86,7 @@ fn gain(instance: &Instance, near: &Neigh, tour: &ArrayTour) -> Option<Exchange>
 
 /// Exchanges steps until no exchange with a near replacement shortens the tour. Each makes it shorter by a whole number,
 /// so this ends.
-pub fn settle(instance: &Instance, near: &Neigh, tour: &mut ArrayTour)
+pub fn bring_to_rest(instance: &Instance, near: &Neigh, tour: &mut ArrayTour)
     requires cities { instance.now.n ≡ length tour.old }
     requires lists { near.now.n ≡ length tour.old }
     ensures size { length tour.new ≡ length tour.old }

@@ -1,0 +1,22 @@
+# bash completion for tspc
+_tspc() {
+    local word=${COMP_WORDS[COMP_CWORD]} last=${COMP_WORDS[COMP_CWORD - 1]}
+    COMPREPLY=()
+    if [ "$COMP_CWORD" -eq 1 ]; then
+        mapfile -t COMPREPLY < <(compgen -W 'solve verify tour bench' -- "$word")
+        return
+    fi
+    case $last in
+    --budget | --seed) return ;;
+    esac
+    if [[ $word == -* ]]; then
+        case ${COMP_WORDS[1]} in
+        solve) mapfile -t COMPREPLY < <(compgen -W '--budget --seed' -- "$word") ;;
+        tour) mapfile -t COMPREPLY < <(compgen -W '--seed' -- "$word") ;;
+        esac
+    elif [ "${COMP_WORDS[1]}" != bench ]; then
+        compopt -o filenames
+        mapfile -t COMPREPLY < <(compgen -f -- "$word")
+    fi
+}
+complete -F _tspc tspc

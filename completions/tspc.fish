@@ -1,0 +1,9 @@
+# fish completion for tspc
+set -l commands solve verify tour bench
+complete -c tspc -n "not __fish_seen_subcommand_from $commands" -f
+complete -c tspc -n "not __fish_seen_subcommand_from $commands" -a solve -d 'A shortest tour and its proof, or a restart file'
+complete -c tspc -n "not __fish_seen_subcommand_from $commands" -a verify -d 'Whether a file is a proof'
+complete -c tspc -n "not __fish_seen_subcommand_from $commands" -a tour -d 'A good tour at once'
+complete -c tspc -n "not __fish_seen_subcommand_from $commands" -a bench -d 'Solve a pseudo-random instance'
+complete -c tspc -n '__fish_seen_subcommand_from solve' -l budget -x -d 'Nodes to close or split at most'
+complete -c tspc -n '__fish_seen_subcommand_from solve tour' -l seed -x -d 'Seed of the tour search'

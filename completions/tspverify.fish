@@ -1,0 +1,2 @@
+# fish completion for tspverify
+complete -c tspverify -F
