@@ -1,9 +1,9 @@
 -- The lines of a leaf, at their place or not.
-use Rattle.std.proofs.Common.{◌≡◌, ℕ, ◌+◌, ◌-◌, ◌<◌, ◌≤◌, ◌&&◌, true, false, cond, Some, None, Option, Result, Ok, Err, IfOk, arith}
+use Rattle.std.proofs.Common.{◌≡◌, ℕ, ◌+◌, ◌-◌, ◌<◌, ◌≤◌, ◌&&◌, Some, None, Result, Ok, Err, IfOk}
 use Rattle.std.specs.Prelude.{ℤ, nat_lt, nat_le, ◌==◌}
 use Rattle.std.proofs.lemmas.Bool.{and_from, and_parts, cond-true, cond-false, false_from_ne_true, ltb-true, leb-true, eqb-true, lt-ltb, le-leb, eq-eqb}
 use Rattle.certdef.specs.Items.{city_line, cut_line, condition_line}
-use Rattle.verdict.specs.Forms.{DualsLeft, Form, at_trees, at_duals, duals_then, form_dual}
+use Rattle.verdict.specs.Forms.{DualsLeft, at_trees, at_duals, duals_then, form_dual}
 
 -- no line of the leaf is left
 pub nothing_left : (r k : ℕ) (d : DualsLeft) → d.a ≡ 0 → d.b ≡ 0 → d.c ≡ 0 → duals_then r k d ≡ at_trees r k
