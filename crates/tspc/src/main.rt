@@ -3,10 +3,10 @@
 #![tactic(auto)]
 
 use ports::{FileDesk, FileSlots};
-use std::alloc::{AllocError, Global};
-use std::env;
+use std::alloc::AllocError;
 use std::process::ExitCode;
 use tspengine::{Status, run};
+use verification::command_words;
 
 fn main(rt: HostRuntime) -> ExitCode {
     match solve(&rt) {
@@ -20,14 +20,6 @@ fn solve(rt: &HostRuntime) -> Result<Status, AllocError> {
     let alloc = rt.alloc();
     let mut desk = FileDesk::new(rt.clone()?);
     let mut slots = FileSlots::new(alloc, rt.clone()?)?;
-    let words = words(rt, alloc)?;
+    let words = command_words(rt)?;
     Ok(run(rt, alloc, &words, &mut desk, &mut slots))
-}
-
-/// The words of the command line; none where one is not text, which is no command's form.
-fn words(rt: &HostRuntime, alloc: Global) -> Result<Vec<String>, AllocError> {
-    match env::args(rt) {
-        Ok(words) => words.collect(alloc),
-        Err(_) => Ok(Vec::new(alloc)),
-    }
 }

@@ -1,7 +1,9 @@
 mod Fronts
-mod Finishing
 mod Writing
-mod Ends
-mod Verifying
+mod InstanceReads
+mod Solves
 mod Tours
-pub mod DrawnRuns
+mod Benches
+mod Verifies
+mod Commands
+mod Completions

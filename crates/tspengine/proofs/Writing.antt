@@ -6,14 +6,15 @@ use Rattle.tspdef.specs.Trees.{Tree, open_leaf, closed_leaf, edge_split, clique_
 use Rattle.tspdef.specs.Laws.{AcceptedIsOptimal, SameCycleIsSameTour, CanonicalFormIsOne}
 use Rattle.certdef.specs.Proofs.{text}
 use Rattle.certdef.specs.Accepted.{from_zero, tree_in, IsAcceptedText}
+use Rattle.certdef.specs.Restarts.{ClosedIsAccepted}
 use Rattle.certform.specs.Written.{from_one, written, IsBody}
 use Rattle.certform.specs.Faithful.{IsFitting, AreAlike, WrittenIsFaithful, FaithfulIsAccepted}
-use Rattle.opening.specs.Openings.{opening_length}
+use Rattle.opening.specs.Openings.{IsOpeningTour, opening_length}
 use Rattle.treebook.specs.Tables.{Branch, on_edge, on_clique}
 use Rattle.worker.specs.Splits.{IsNeededSplit}
 use Rattle.treesearch.specs.Splits.{AllSplits, SplitsAreNeeded}
 use Rattle.tspengine.specs.Texts.{optimal_text, length_text, stopped_text}
-use Rattle.tspengine.specs.Outcomes.{IsOptimal, IsProved, IsStopped}
+use Rattle.tspengine.specs.Outcomes.{IsProofOf, IsBodyOf}
 
 -- counted from 1 and back
 from_zero-from_one : (s : List ℕ) → from_zero (from_one s) ≡ s
@@ -58,11 +59,11 @@ alike_split P path (clique_split s p q) (clique_split r c d) a n =
     )
 
 -- what is written of a search without an open node is a proof of the tour that is printed
-pub written_optimal : WrittenIsFaithful → FaithfulIsAccepted → AcceptedIsOptimal → SameCycleIsSameTour → CanonicalFormIsOne
-    → (i : Instance) (best tour : List ℕ) (l : ℕ) (t : Tree) (proof printed line : List ℕ) → IsInstance i → IsTourOf i best → l ≡ length_in i best
-    → IsSoundFor i l t → IsFitting i.n [] t → open_leaves t + settled t ≤ 1048576 → open_leaves t ≡ 0
-    → IsBody i best t proof → IsCanonicalForm best tour → printed ≡ optimal_text l tour → line ≡ length_text l → IsOptimal i proof printed × IsProved i proof line
-written_optimal faithful_law accepted_law optimal_law same_law one_law i best tour l t proof printed line is is_best long sound fits few none (form, is_form, bytes) is_tour prints lined =
+pub written_optimal : WrittenIsFaithful → FaithfulIsAccepted → ClosedIsAccepted → AcceptedIsOptimal → SameCycleIsSameTour → CanonicalFormIsOne
+    → (i : Instance) (budget : ℕ) (best tour : List ℕ) (l : ℕ) (t : Tree) (proof printed line : List ℕ) → IsInstance i → IsTourOf i best → l ≡ length_in i best
+    → IsSoundFor i l t → IsFitting i.n [] t → open_leaves t + settled t ≤ 1048576 → open_leaves t ≡ 0 → settled t ≤ budget
+    → IsBody i best t proof → IsCanonicalForm best tour → printed ≡ optimal_text l tour → line ≡ length_text l → IsProofOf i budget proof printed line
+written_optimal faithful_law accepted_law closed_law optimal_law same_law one_law i budget best tour l t proof printed line is is_best long sound fits few none spent (form, is_form, bytes) is_tour prints lined =
     let many = is.many in
     let one = one_law i best form tour many is_best is_form is_tour in
     let same = same_law i best tour is_best is_tour.same in
@@ -71,39 +72,47 @@ written_optimal faithful_law accepted_law optimal_law same_law one_law i best to
     let e : proof ≡ text (written i.n tour l t) = bytes ∙ ap (λ (f : List ℕ). text (written i.n f (length_in i f) t)) one
     ∙ ap (λ (m : ℕ). text (written i.n tour m t)) (sym as_long) in
     let short : (other : List ℕ) → IsTourOf i other → l ≤ length_in i other = λ other o. optimal_law i tour other l t many (record { is_tour = same.is_tour; canonical = is_tour.canonical; long = as_long; sound = sound; none_open = none }) o in
-    let accepted = subst (λ (b : List ℕ). IsAcceptedText i b l) (sym e) (accepted_law i l t (written i.n tour l t) faithful none) in (
-      record {
-        tour = tour;
-        length = l;
+    let accepted = subst (λ (b : List ℕ). IsAcceptedText i b l) (sym e) (accepted_law i l t (written i.n tour l t) faithful none) in
+    record {
+      tour = tour;
+      length = l;
+      optimal = record {
         value = written i.n tour l t;
-        prints = prints;
         is_tour = same.is_tour;
         canonical = is_tour.canonical;
         long = as_long;
         shortest = short;
-        written = record { text = e; form = faithful.form; accepted = record { sound = faithful.sound; none_open = faithful.opened ∙ none } };
-        same = from_zero-from_one tour;
         accepted = accepted;
-      },
-      record { length = l; prints = lined; shortest = short; accepted = accepted },
-    )
+        written = record { text = e; form = faithful.form; accepted = closed_law i l (written i.n tour l t) faithful.sound (faithful.opened ∙ none) };
+        same = from_zero-from_one tour;
+        few = subst (λ (k : ℕ). k ≤ budget) (sym faithful.settled) spent;
+      };
+      prints = prints;
+      lines = lined;
+    }
 
 -- what is written of a search with an open node is a body to go on from
 pub written_stopped : WrittenIsFaithful → SameCycleIsSameTour
-    → (i : Instance) (budget : ℕ) (best : List ℕ) (l : ℕ) (t : Tree) (body printed : List ℕ) → IsInstance i → IsTourOf i best → l ≡ length_in i best
+    → (i : Instance) (budget : ℕ) (best opening : List ℕ) (l : ℕ) (t : Tree) (body printed : List ℕ) → IsInstance i → IsTourOf i best → l ≡ length_in i best
+    → IsOpeningTour i opening → l ≤ length_in i opening
     → IsSoundFor i l t → IsFitting i.n [] t → open_leaves t + settled t ≤ 1048576 → 0 < open_leaves t → settled t ≡ budget
-    → SplitsAreNeeded i (opening_length i) t → IsBody i best t body → printed ≡ stopped_text l (open_leaves t) → IsStopped i budget body printed
-written_stopped faithful_law same_law i budget best l t body printed is is_best long sound fits few some spent needed (form, is_form, bytes) prints =
+    → SplitsAreNeeded i (opening_length i) t → IsBody i best t body → printed ≡ stopped_text l (open_leaves t) → IsBodyOf i budget body printed
+written_stopped faithful_law same_law i budget best opening l t body printed is is_best long opened shorter sound fits few some spent needed (form, is_form, bytes) prints =
     let same = same_law i best form is_best is_form.same in
     let as_long : l ≡ length_in i form = long ∙ sym same.long in
     let faithful = faithful_law i form l t is same.is_tour is_form.canonical as_long sound fits few in
     record {
-      value = written i.n form l t;
-      prints = prints ∙ ap (stopped_text l) (sym faithful.opened);
+      body = written i.n form l t;
+      stopped = record {
+        form = faithful.form;
+        sound = faithful.sound;
+        opening = opening;
+        is_opening = opened;
+        no_longer = shorter;
+        some_open = subst (λ (k : ℕ). 0 < k) (sym faithful.opened) some;
+        settled = faithful.settled ∙ spent;
+        needed = alike_split (λ at b. IsNeededSplit i at (opening_length i) b) [] t (tree_in i.n (written i.n form l t)) faithful.alike needed;
+      };
       is_text = bytes ∙ ap (λ (m : ℕ). text (written i.n form m t)) (sym as_long);
-      form = faithful.form;
-      sound = faithful.sound;
-      some_open = subst (λ (k : ℕ). 0 < k) (sym faithful.opened) some;
-      settled = faithful.settled ∙ spent;
-      needed = alike_split (λ at b. IsNeededSplit i at (opening_length i) b) [] t (tree_in i.n (written i.n form l t)) faithful.alike needed;
+      prints = prints ∙ ap (stopped_text l) (sym faithful.opened);
     }

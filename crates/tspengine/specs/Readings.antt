@@ -1,24 +1,20 @@
--- What the first steps end with, which the verifier shares.
-use Rattle.std.specs.Prelude.{◌≡◌, ◌⊎◌}
-use Rattle.verification.specs.declared.statuses.VerifyStatus.{VerifyStatus}
-use Rattle.verification.specs.declared.statuses.VerifyStatus.TheVariants as checked
-use Rattle.tspengine.specs.declared.statuses.Status.{Status}
-use Rattle.tspengine.specs.declared.statuses.Status.TheVariants as status
+-- How a call ends that goes no further than its instance: `solve` and `tour` share this.
+use Rattle.tspwords.specs.Program.{instance_word}
+use Rattle.verification.specs.Headline.{BadInstance}
+use Rattle.verification.specs.Transfers.{Torn, TouchesInstance}
+use Rattle.tspengine.specs.Calls.{Call, DeskMoved, SlotsKept}
 
--- the status of a run that ends as the verifier does
-abbrev pub status_of : VerifyStatus → Status
-status_of checked.Verified = status.Verified
-status_of checked.Usage = status.Usage
-status_of checked.BadInstance = status.BadInstance
-status_of checked.Refused = status.Refused
-status_of checked.ReadFault = status.ReadFault
-status_of checked.WriteFault = status.WriteFault
-status_of checked.NoMemory = status.NoMemory
+-- BadInstance: the first refusal of the instance is printed.
+pub record Refuses (c : Call) : Type 0 where
+  pub desk : DeskMoved (BadInstance (instance_word c.words)) c
+  pub slots : SlotsKept c
 
--- reading fails by a fault or for want of memory
-abbrev pub IsReadError : Status → Type 0
-IsReadError s = (s ≡ status.ReadFault) ⊎ (s ≡ status.NoMemory)
+-- WriteFault: of that a front is printed.
+pub record TornRefusal (c : Call) : Type 0 where
+  pub desk : DeskMoved (Torn (BadInstance (instance_word c.words))) c
+  pub slots : SlotsKept c
 
--- a refusal is printed, or writing fails, or memory runs out
-abbrev pub IsRefuseStatus : Status → Type 0
-IsRefuseStatus s = (s ≡ status.BadInstance) ⊎ (s ≡ status.WriteFault) ⊎ (s ≡ status.NoMemory)
+-- ReadFault or NoMemory: nothing was done, or the instance was bound and a front of it taken.
+pub record Unread (c : Call) : Type 0 where
+  pub desk : DeskMoved (TouchesInstance (instance_word c.words)) c
+  pub slots : SlotsKept c

@@ -1,7 +1,10 @@
-//! Solving an instance that a seed draws.
-ghost use Rattle.std.specs.Prelude.{◌≡◌, ◌≢◌, ◌≤◌, IfOk, OnOk};
-ghost use Rattle.ports.specs.Outside.{BothTell, Cause};
-ghost use Rattle.tspengine.specs.Benches.{bench_in, instance_of, EndsBench, IsBenchEnd, IsSmallBench};
+//! The command `bench`: a search of an instance that a seed draws.
+ghost use Rattle.std.specs.Prelude.{◌≡◌, ◌≤◌, IfOk, string_bytes};
+ghost use Rattle.ports.specs.Outside.{Cause};
+ghost use Rattle.tspgen.specs.Points.{drawn};
+ghost use Rattle.tspwords.specs.Says.{SaysBench};
+ghost use Rattle.tspengine.specs.Calls.{Call, SlotsKept, on_desk};
+ghost use Rattle.tspengine.specs.Benching.{Benches};
 ghost use Rattle.tspengine.specs.Outcomes.{IsOutcome, IsProof};
 
 use crate::outcomes::{Outcome, outcome_of};
@@ -17,11 +20,10 @@ pub(crate) fn bench<D: Desk>(alloc: Global, words: &BenchWords, desk: &mut D) ->
     requires many { 3 ≤ words.now.cities }
     requires few { words.now.cities ≤ 2000 }
     requires budget { words.now.budget ≤ 65536 }
-    ensures desk { BothTell (EndsBench (bench_in words.now) result) (D.told desk.old) (D.told desk.new) }
-    ensures status { IsBenchEnd result }
-    ensures small { IsSmallBench (bench_in words.now) → result ≢ Status.BenchStopped }
-    ensures cause { Cause (result ≡ Status.WriteFault) (D.write_faults desk.old) (D.write_faults desk.new) }
-    ensures same { D.read_faults desk.new ≡ D.read_faults desk.old }
+    ensures ends { (c : Call) → SaysBench c.words words.now → SlotsKept c
+        → Benches result (on_desk (D.told desk.old) (D.told desk.new) c) }
+    ensures reads { D.read_faults desk.new ≡ D.read_faults desk.old }
+    ensures writes { Cause (result ≡ Status.WriteFault) (D.write_faults desk.old) (D.write_faults desk.new) }
 {
     match drawn_outcome(alloc, words) {
         Ok(outcome) => write_down(desk, words, &outcome),
@@ -34,8 +36,8 @@ fn drawn_outcome(alloc: Global, words: &BenchWords) -> Result<Outcome, AllocErro
     requires many { 3 ≤ words.now.cities }
     requires few { words.now.cities ≤ 2000 }
     requires budget { words.now.budget ≤ 65536 }
-    ensures outcome { IfOk result (IsOutcome (instance_of (bench_in words.now)) words.now.budget) }
-    ensures small { IsSmallBench (bench_in words.now) → IfOk result IsProof }
+    ensures outcome { IfOk result (IsOutcome (drawn words.now.seed words.now.cities) words.now.budget) }
+    ensures small { words.now.cities ≤ 5 → 2047 ≤ words.now.budget → IfOk result IsProof }
 {
     let instance = make(alloc, words.seed, words.cities)?;
     outcome_of(alloc, &instance, words.budget, words.seed)
@@ -43,12 +45,12 @@ fn drawn_outcome(alloc: Global, words: &BenchWords) -> Result<Outcome, AllocErro
 
 /// Writes the proof and prints its length, or writes the body and prints how far the search came.
 fn write_down<D: Desk>(desk: &mut D, words: &BenchWords, outcome: &Outcome) -> Status
-    requires { IsOutcome (instance_of (bench_in words.now)) words.now.budget outcome.now }
-    ensures desk { BothTell (EndsBench (bench_in words.now) result) (D.told desk.old) (D.told desk.new) }
-    ensures status { IsBenchEnd result }
-    ensures proof { IsProof outcome.now → result ≢ Status.BenchStopped }
-    ensures cause { Cause (result ≡ Status.WriteFault) (D.write_faults desk.old) (D.write_faults desk.new) }
-    ensures same { D.read_faults desk.new ≡ D.read_faults desk.old }
+    requires outcome { IsOutcome (drawn words.now.seed words.now.cities) words.now.budget outcome.now }
+    requires small { words.now.cities ≤ 5 → 2047 ≤ words.now.budget → IsProof outcome.now }
+    ensures ends { (c : Call) → SaysBench c.words words.now → SlotsKept c
+        → Benches result (on_desk (D.told desk.old) (D.told desk.new) c) }
+    ensures reads { D.read_faults desk.new ≡ D.read_faults desk.old }
+    ensures writes { Cause (result ≡ Status.WriteFault) (D.write_faults desk.old) (D.write_faults desk.new) }
 {
     match outcome {
         Outcome::Optimal { proof, line, .. } => match publish(desk, &words.out, proof, line) {

@@ -1,15 +1,21 @@
 //! The engine: a command line, a desk and slots in, an answer out.
 //!
-//! - [`run`] reads the words, does what they say, and ends with a [`Status`].
+//! `specs/Headline.antt` says what holds where it answers Optimal, Stopped, Toured, Benched or BenchStopped, a record each; where
+//! it answers Verified or Refused, that of `verification` does.
+//!
+//! - [`run`] reads the words, does what they say, and ends with a [`Status`]. `specs/Runs.antt` is its contract, a line a command.
 #![tactic(auto)]
 
 mod benching;
 mod outcomes;
 mod publishing;
 mod running;
+mod solving;
 mod statuses;
 mod texts;
 mod touring;
+mod usage;
+mod verifying;
 
 pub use running::run;
 pub use statuses::Status;

@@ -1,6 +1,8 @@
 //! From an instance to a proof that a tour is shortest, or to a body to go on from.
-ghost use Rattle.std.specs.Prelude.{◌≡◌, ℕ, ◌<◌, ◌≤◌, IfOk, length};
+ghost use Rattle.std.specs.Prelude.{◌≡◌, ℕ, ◌<◌, ◌≤◌, List, IfOk, length};
+ghost use Rattle.tspdef.specs.Instances.{length_in};
 ghost use Rattle.tspdef.specs.Trees.{open_leaves, settled};
+ghost use Rattle.opening.specs.Openings.{IsOpeningTour};
 ghost use Rattle.treebook.specs.Tables.{tree_of};
 ghost use Rattle.certform.specs.Written.{IsBody};
 ghost use Rattle.worker.specs.Splits.{IsNeededSplit};
@@ -8,6 +10,7 @@ ghost use Rattle.treesearch.specs.Searches.{IsFound};
 ghost use Rattle.tspengine.specs.Outcomes.{IsOutcome, IsProof};
 
 use crate::texts::{length_text, optimal_text, stopped_text};
+use certdef::closed_is_accepted;
 use certform::{body, tables_fit, written_is_faithful};
 use grunt::LpWorker;
 use opening::find_opening;
@@ -65,10 +68,11 @@ fn optimal(
     requires few { length found.now.tree.nodes ≤ 1048576 }
     requires none_open { open_leaves (tree_of found.now.tree.nodes) ≡ 0 }
     requires proof { IsBody instance.now found.now.best (tree_of found.now.tree.nodes) proof.items }
-    ensures outcome { (budget : ℕ) → IfOk result (IsOutcome instance.now budget) }
+    ensures outcome { (budget : ℕ) → settled (tree_of found.now.tree.nodes) ≤ budget → IfOk result (IsOutcome instance.now budget) }
     ensures proof { IfOk result IsProof }
 {
     accepted_is_optimal();
+    closed_is_accepted();
     tours_are_cycles();
     tables_fit();
     written_is_faithful();
@@ -96,7 +100,8 @@ fn stopped(
     requires some_open { 0 < open_leaves (tree_of found.now.tree.nodes) }
     requires settled { settled (tree_of found.now.tree.nodes) ≡ budget }
     requires body { IsBody instance.now found.now.best (tree_of found.now.tree.nodes) body.items }
-    ensures { IfOk result (IsOutcome instance.now budget) }
+    ensures { (opening : List ℕ) → IsOpeningTour instance.now opening → found.now.length ≤ length_in instance.now opening
+        → IfOk result (IsOutcome instance.now budget) }
 {
     tours_are_cycles();
     tables_fit();

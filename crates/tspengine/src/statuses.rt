@@ -1,7 +1,7 @@
 //! How a run ends.
 ghost use Rattle.std.specs.Prelude.{◌≡◌};
 ghost use Rattle.tspengine.specs.Codes.{code_of};
-ghost use Rattle.tspengine.specs.Readings.{status_of};
+ghost use Rattle.tspengine.specs.Statuses.{status_of};
 
 use std::alloc::AllocError;
 use verification::VerifyStatus;

@@ -5,7 +5,7 @@ ghost use Rattle.std.specs.Prelude.{◌<◌};
 
 use crate::{Status, run};
 use cyc::Tour;
-use ports::{MemDesk, MemSlots, Room, SlotCall};
+use ports::{Inlet, MemDesk, MemSlots, Room, SlotCall};
 use std::alloc::{AllocError, Global};
 use std::test::Fail;
 use tspgen::make;
@@ -51,6 +51,16 @@ struct Ended {
 impl Ended {
     fn text(&self) -> &[u8] {
         self.desk.text()
+    }
+
+    /// How often the instance, the proof that is read, the proof that is written and the slots were bound.
+    fn binds(&self) -> [u64; 4] {
+        [
+            self.desk.inlet_binds(Inlet::Instance),
+            self.desk.inlet_binds(Inlet::Proof),
+            self.desk.proof_binds(),
+            self.slots.binds(),
+        ]
     }
 }
 
@@ -385,6 +395,88 @@ fn a_search_starts_with_a_good_tour(rt: HostRuntime) -> Result<(), Fail> {
         ended.slots.slot(0),
         b"\x01\0\0\0\0\0\0\0\0\x2eTSPCERT 1\nN 4\nLENGTH 40\nTOUR 1 3 2 4\nCUTS 0\nO\n".as_slice()
     );
+    Ok(())
+}
+
+#[test]
+fn each_path_is_bound_once_where_it_is_used(rt: HostRuntime) -> Result<(), Fail> {
+    let alloc = rt.alloc();
+    let rows = [
+        ("tspc solve a b c", SQUARE, [1, 0, 1, 1]),
+        ("tspc solve a b c --budget 0", SQUARE, [1, 0, 0, 1]),
+        ("tspc solve a b c", "", [1, 0, 0, 0]),
+        ("tspc verify a b", SQUARE, [1, 1, 0, 0]),
+        ("tspc verify a b", "", [1, 0, 0, 0]),
+        ("tspc tour a", SQUARE, [1, 0, 0, 0]),
+        ("tspc tour a", "", [1, 0, 0, 0]),
+        ("tspc bench 1 3 16 b", SQUARE, [0, 0, 1, 0]),
+        ("tspc bench 1 3 0 b", SQUARE, [0, 0, 1, 0]),
+        ("tspc tour", SQUARE, [0, 0, 0, 0]),
+    ];
+    for (line, text, binds) in rows {
+        let ended = solved(alloc, line, text)?;
+        assert_eq!(rt; ended.binds(), binds, "{line}");
+        assert_eq!(rt;
+            is_bound_to(ended.desk.inlet_path(Inlet::Instance), b"a"),
+            binds[0] == 1,
+            "{line}"
+        );
+        assert_eq!(rt;
+            is_bound_to(ended.desk.inlet_path(Inlet::Proof), b"b"),
+            binds[1] == 1,
+            "{line}"
+        );
+        assert_eq!(rt;
+            is_bound_to(ended.desk.proof_path(), b"b"),
+            binds[2] == 1,
+            "{line}"
+        );
+        assert_eq!(rt;
+            is_bound_to(ended.slots.path(), b"c"),
+            binds[3] == 1,
+            "{line}"
+        );
+    }
+    Ok(())
+}
+
+#[test]
+fn a_failing_save_leaves_the_other_slot(rt: HostRuntime) -> Result<(), Fail> {
+    let alloc = rt.alloc();
+    let first = solved(alloc, "tspc solve a b c --budget 0", SQUARE)?;
+    let kept = first.slots.slot(0);
+    for k in 1..first.slots.entries().len() + 1 {
+        let bad = [(SlotCall::Any, k as u64)];
+        let mut desk = MemDesk::new(
+            alloc,
+            CROSSED.as_bytes(),
+            b"",
+            4096,
+            65_536,
+            &[],
+            &[],
+            &[],
+            ROOM,
+        )?;
+        let mut slots = MemSlots::new(alloc, kept, b"", &bad, ROOM)?;
+        let words = words(alloc, "tspc solve a b c --budget 0")?;
+        let status = run(&(), alloc, &words, &mut desk, &mut slots);
+        assert_eq!(rt; status, Status::StoreFault);
+        assert_eq!(rt; slots.slot(0), kept);
+        assert_eq!(rt; desk.text(), b"".as_slice());
+    }
+    Ok(())
+}
+
+#[test]
+fn a_refused_instance_is_read_to_its_end(rt: HostRuntime) -> Result<(), Fail> {
+    let alloc = rt.alloc();
+    let text = with_line(alloc, 3, "DIMENSION : 2")?;
+    for line in ["tspc solve a b c", "tspc tour a", "tspc verify a b"] {
+        let ended = solved(alloc, line, &text)?;
+        assert_eq!(rt; ended.status, Status::BadInstance);
+        assert_eq!(rt; ended.desk.left(Inlet::Instance), b"".as_slice(), "{line}");
+    }
     Ok(())
 }
 

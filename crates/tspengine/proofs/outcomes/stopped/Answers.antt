@@ -6,7 +6,7 @@ use Rattle.tspengine.proofs.Writing.{written_stopped}
 use Rattle.tspengine.proofs.outcomes.stopped.Goals as goal
 
 pub returns : goal.returns
-returns c =
+returns c = λ opening opened shorter.
     let i = c.args.instance.now in
     let f = c.args.found.now in
     let was = c.requires.found.search in
@@ -16,5 +16,5 @@ returns c =
     let few : open_leaves t + settled t ≤ 1048576 =
     let all = c.nodes.ensures.counted in let number = c.nodes.ensures.number in let most = c.requires.few in omega arith in
     written_stopped c.written_is_faithful.ensures c.tours_are_cycles.ensures.same
-    i c.args.budget f.best f.length t c.args.body.items c.in_ok-printed.printed.items c.n.ensures.instance was.is_tour was.long was.sound fits few c.requires.some_open
+    i c.args.budget f.best opening f.length t c.args.body.items c.in_ok-printed.printed.items c.n.ensures.instance was.is_tour was.long opened shorter was.sound fits few c.requires.some_open
     c.requires.settled c.requires.found.split_by c.requires.body (c.in_ok-printed.ensures ∙ ap (stopped_text f.length) c.open_nodes.ensures)

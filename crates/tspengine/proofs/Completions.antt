@@ -1,0 +1,115 @@
+-- What follows where nothing fails.
+use Rattle.std.proofs.Common.{◌≡◌, ℕ, List, sym, subst, ◌∙◌, inl, inr, Option, Some, None, Ok, arith}
+use Rattle.ports.specs.Outside.{BothTell, Cause}
+use Rattle.ports.specs.Desk.{Told}
+use Rattle.tspdef.specs.Instances.{Instance}
+use Rattle.tspinst.specs.Texts.{InstanceText}
+use Rattle.certdef.specs.Accepted.{IsAcceptedText}
+use Rattle.tspwords.specs.Program.{instance_word}
+use Rattle.verification.specs.Headline.{BadInstance, Refused}
+use Rattle.verification.specs.Paths.{Paths}
+use Rattle.verification.specs.Counts.{IsCalm, IsTold}
+use Rattle.tspengine.specs.Calls.{Call}
+use Rattle.tspengine.specs.Solving.{SolveCompletes}
+use Rattle.tspengine.specs.Verifying.{paths_of, VerifyCompletes, AcceptedCompletes}
+use Rattle.tspengine.specs.Touring.{TourCompletes}
+use Rattle.tspengine.specs.Benching.{BenchCompletes, SmallBenchCompletes}
+use Rattle.tspengine.specs.Runs.{Ends, HasCauses, Runs}
+use Rattle.tspengine.specs.declared.statuses.Status.{Status}
+use Rattle.tspengine.specs.declared.statuses.Status.TheVariants as status
+
+no_fault : (failed : Type 0) (before after : ℕ) → Cause failed before after → IsCalm before after → failed → ⊥
+no_fault failed before after cause calm is = let rose = cause.rose is in absurd (omega arith)
+
+-- an instance's text is not refused
+not_bad : (path : List ℕ) (i : Instance) (a b : Option Told) → IsTold (λ t. InstanceText t.instance i) a → BothTell (BadInstance path) a b → ⊥
+not_bad path i None b told run = told
+not_bad path i (Some t) None told run = run
+not_bad path i (Some t) (Some u) told run = let e = sym told ∙ run.first_refusal in cc
+
+solve_completes : (s : Status) (c : Call) → Ends s c → HasCauses s c → SolveCompletes s c
+solve_completes s c ends causes = λ i call told calm still. elim (ends.solve call) [
+  | inl (e, x) ↦ inl e
+  | inr (inl (e, x)) ↦ inr (inl e)
+  | inr (inr (inl (e, x))) ↦ absurd (not_bad (instance_word c.words) i c.before.desk c.after.desk told x.desk)
+  | inr (inr (inr (inl (e, x)))) ↦ absurd (no_fault (s ≡ status.ReadFault) _ _ causes.reads calm.reads e)
+  | inr (inr (inr (inr (inl (e, x))))) ↦ absurd (no_fault (s ≡ status.WriteFault) _ _ causes.writes calm.writes e)
+  | inr (inr (inr (inr (inr (inl (e, x)))))) ↦ absurd (no_fault (s ≡ status.StoreFault) _ _ causes.store still e)
+  | inr (inr (inr (inr (inr (inr (e, x)))))) ↦ inr (inr e)
+]
+
+tour_completes : (s : Status) (c : Call) → Ends s c → HasCauses s c → TourCompletes s c
+tour_completes s c ends causes = λ i call told calm. elim (ends.tour call) [
+  | inl (e, x) ↦ inl e
+  | inr (inl (e, x)) ↦ absurd (not_bad (instance_word c.words) i c.before.desk c.after.desk told x.desk)
+  | inr (inr (inl (e, x))) ↦ absurd (no_fault (s ≡ status.ReadFault) _ _ causes.reads calm.reads e)
+  | inr (inr (inr (inl (e, x)))) ↦ absurd (no_fault (s ≡ status.WriteFault) _ _ causes.writes calm.writes e)
+  | inr (inr (inr (inr (e, x)))) ↦ inr e
+]
+
+bench_completes : (s : Status) (c : Call) → Ends s c → HasCauses s c → BenchCompletes s c
+bench_completes s c ends causes = λ call calm. elim (ends.bench call) [
+  | inl (e, x) ↦ inl e
+  | inr (inl (e, x, large)) ↦ inr (inl e)
+  | inr (inr (inl (e, x))) ↦ absurd (no_fault (s ≡ status.WriteFault) _ _ causes.writes calm.writes e)
+  | inr (inr (inr (e, x))) ↦ inr (inr e)
+]
+
+small_bench_completes : (s : Status) (c : Call) → Ends s c → HasCauses s c → SmallBenchCompletes s c
+small_bench_completes s c ends causes = λ call small calm. elim (ends.bench call) [
+  | inl (e, x) ↦ inl e
+  | inr (inl (e, x, large)) ↦ absurd (large small)
+  | inr (inr (inl (e, x))) ↦ absurd (no_fault (s ≡ status.WriteFault) _ _ causes.writes calm.writes e)
+  | inr (inr (inr (e, x))) ↦ inr e
+]
+
+-- ---- a proof
+
+one_instance : (bytes : List ℕ) (i j : Instance) → InstanceText bytes i → InstanceText bytes j → i ≡ j
+one_instance bytes i j p q = let e : Ok i ≡ Ok j = sym p ∙ q in cc
+
+-- an accepted one is not refused
+not_refused : (paths : Paths) (i : Instance) (l : ℕ) (a b : Option Told) → IsTold (λ t. InstanceText t.instance i × IsAcceptedText i t.proof_in l) a → BothTell (Refused paths) a b → ⊥
+not_refused paths i l None b told run = told
+not_refused paths i l (Some t) None told run = run
+not_refused paths i l (Some t) (Some u) told run =
+    run.accepted_with_no_length l (subst (λ (x : Instance). IsAcceptedText x t.proof_in l) (one_instance t.instance i run.instance told.0 run.instance_text) told.1)
+
+instance_told : (i : Instance) (l : ℕ) (a : Option Told) → IsTold (λ t. InstanceText t.instance i × IsAcceptedText i t.proof_in l) a → IsTold (λ t. InstanceText t.instance i) a
+instance_told i l None told = told
+instance_told i l (Some t) told = told.0
+
+verify_completes : (s : Status) (c : Call) → Ends s c → HasCauses s c → VerifyCompletes s c
+verify_completes s c ends causes = λ i call told calm. elim (ends.verify call).desk [
+  | inl (e, x) ↦ inl e
+  | inr (inl (e, x)) ↦ inr (inl e)
+  | inr (inr (inl (e, x))) ↦ absurd (not_bad (instance_word c.words) i c.before.desk c.after.desk told x)
+  | inr (inr (inr (inl (e, x)))) ↦ absurd (no_fault (s ≡ status.ReadFault) _ _ causes.reads calm.reads e)
+  | inr (inr (inr (inr (inl (e, x))))) ↦ absurd (no_fault (s ≡ status.WriteFault) _ _ causes.writes calm.writes e)
+  | inr (inr (inr (inr (inr (e, x))))) ↦ inr (inr e)
+]
+
+accepted_completes : (s : Status) (c : Call) → Ends s c → HasCauses s c → AcceptedCompletes s c
+accepted_completes s c ends causes = λ i l call told calm. elim (ends.verify call).desk [
+  | inl (e, x) ↦ inl e
+  | inr (inl (e, x)) ↦ absurd (not_refused (paths_of c.words) i l c.before.desk c.after.desk told x)
+  | inr (inr (inl (e, x))) ↦ absurd (not_bad (instance_word c.words) i c.before.desk c.after.desk (instance_told i l c.before.desk told) x)
+  | inr (inr (inr (inl (e, x)))) ↦ absurd (no_fault (s ≡ status.ReadFault) _ _ causes.reads calm.reads e)
+  | inr (inr (inr (inr (inl (e, x))))) ↦ absurd (no_fault (s ≡ status.WriteFault) _ _ causes.writes calm.writes e)
+  | inr (inr (inr (inr (inr (e, x))))) ↦ inr e
+]
+
+-- a call of `run` that ends so, and by these causes
+pub runs_so : (s : Status) (c : Call) → Ends s c → HasCauses s c → Runs s c
+runs_so s c ends causes = record {
+  ends = ends;
+  causes = causes;
+  completes = record {
+    solve = solve_completes s c ends causes;
+    verify = verify_completes s c ends causes;
+    accepted = accepted_completes s c ends causes;
+    tour = tour_completes s c ends causes;
+    bench = bench_completes s c ends causes;
+    small_bench = small_bench_completes s c ends causes;
+  };
+}

@@ -1,0 +1,69 @@
+-- How a call of `solve` ends.
+use Rattle.std.specs.Prelude.{◌≡◌, ℕ, ◌⊎◌, List, take, Some}
+use Rattle.ports.specs.Slots.{with_path}
+use Rattle.tspdef.specs.Instances.{Instance}
+use Rattle.tspdef.specs.Trees.{open_leaves}
+use Rattle.tspinst.specs.Texts.{InstanceText}
+use Rattle.certdef.specs.Proofs.{Proof, text}
+use Rattle.certdef.specs.Accepted.{tree_in}
+use Rattle.slotstore.specs.Store.{loaded, after_save, ChangesTarget}
+use Rattle.tspwords.specs.Program.{IsSolveCall, instance_word, proof_word, restart_word, budget_of}
+use Rattle.verification.specs.Transfers.{TouchesInstance}
+use Rattle.tspengine.specs.Calls.{Call, DeskHad, DeskIs, DeskMoved, DeskTold, SlotsAre, SlotsMoved, SlotsHold, IsDeskCalm, AreSlotsCalm}
+use Rattle.tspengine.specs.Steps.{reads, prints, TearsWriting}
+use Rattle.tspengine.specs.Texts.{optimal_text, stopped_text}
+use Rattle.tspengine.specs.Outcomes.{IsOptimal, IsStopped}
+use Rattle.tspengine.specs.Headline.{Optimal, Stopped}
+use Rattle.tspengine.specs.Readings.{Refuses, TornRefusal, Unread}
+use Rattle.tspengine.specs.declared.statuses.Status.{Status}
+use Rattle.tspengine.specs.declared.statuses.Status.TheVariants as status
+
+-- WriteFault after a search that left no node open: the outlet of proofs was not bound, or fronts were taken.
+pub record TornOptimal (c : Call) : Type 0 where
+  pub instance : Instance
+  pub tour : List ℕ
+  pub length : ℕ
+  pub proof : List ℕ
+  pub bytes_read : DeskHad (λ t. InstanceText t.instance instance) c
+  pub optimal : IsOptimal instance (budget_of c.words) tour length proof
+  pub desk : DeskMoved (λ t u. TearsWriting (proof_word c.words) proof (optimal_text length tour) (reads (instance_word c.words) t) u) c
+  pub slots : SlotsAre (with_path (restart_word c.words)) c
+
+-- WriteFault after the budget was settled: the body was saved, and a front of the text printed.
+pub record TornStopped (c : Call) : Type 0 where
+  pub instance : Instance
+  pub body : Proof
+  pub front : ℕ
+  pub bytes_read : DeskHad (λ t. InstanceText t.instance instance) c
+  pub stopped : IsStopped instance (budget_of c.words) body
+  pub desk : DeskIs (λ t. prints (take front (stopped_text body.long (open_leaves (tree_in instance.n body)))) (reads (instance_word c.words) t)) c
+  pub slots : SlotsAre (λ t. after_save (text body) (with_path (restart_word c.words) t)) c
+  pub slots_hold_the_body : SlotsHold (λ t. loaded t ≡ Some (text body)) c
+
+-- StoreFault: the instance was read and nothing is written or printed; the slots were not bound, or only the slot that a save
+-- writes may have changed.
+pub record Unsaved (c : Call) : Type 0 where
+  pub instance : Instance
+  pub bytes_read : DeskHad (λ t. InstanceText t.instance instance) c
+  pub desk : DeskIs (reads (instance_word c.words)) c
+  pub slots : SlotsMoved (λ t u. (u ≡ t) ⊎ ChangesTarget (with_path (restart_word c.words) t) u) c
+
+-- NoMemory: nothing is written or printed; the instance was perhaps bound and a front of it taken, and the slots perhaps bound.
+pub record Short (c : Call) : Type 0 where
+  pub desk : DeskMoved (TouchesInstance (instance_word c.words)) c
+  pub slots : SlotsMoved (λ t u. (u ≡ t) ⊎ (u ≡ with_path (restart_word c.words) t)) c
+
+-- It ends with one of these statuses, and so.
+abbrev pub Solves : Status → Call → Type 0
+Solves s c = ((s ≡ status.Optimal) × Optimal c)
+    ⊎ ((s ≡ status.Stopped) × Stopped c)
+    ⊎ ((s ≡ status.BadInstance) × Refuses c)
+    ⊎ ((s ≡ status.ReadFault) × Unread c)
+    ⊎ ((s ≡ status.WriteFault) × (TornRefusal c ⊎ TornOptimal c ⊎ TornStopped c))
+    ⊎ ((s ≡ status.StoreFault) × Unsaved c)
+    ⊎ ((s ≡ status.NoMemory) × Short c)
+
+-- Where the bytes are an instance's text and nothing fails, it ends with Optimal or Stopped, or for want of memory.
+abbrev pub SolveCompletes : Status → Call → Type 0
+SolveCompletes s c = (i : Instance) → IsSolveCall c.words → DeskTold (λ t. InstanceText t.instance i) c → IsDeskCalm c → AreSlotsCalm c
+    → (s ≡ status.Optimal) ⊎ (s ≡ status.Stopped) ⊎ (s ≡ status.NoMemory)
