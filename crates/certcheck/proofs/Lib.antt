@@ -3,3 +3,4 @@ pub mod FollowLemmas
 pub mod StepLemmas
 pub mod ReadingLemmas
 pub mod CheckLemmas
+pub mod TakenLemmas

@@ -1,10 +1,10 @@
 //! The verdict on a desk's proof.
-ghost use Rattle.std.specs.Prelude.{◌≡◌, ℕ, ◌<◌, ◌↔◌, [], length, IfOk, IsErrOf};
+ghost use Rattle.std.specs.Prelude.{◌≡◌, ℕ, ◌+◌, ◌-◌, ◌^◌, ◌<◌, ◌≤◌, ◌↔◌, [], take, length, IfOk, IsErrOf};
 ghost use Rattle.ports.specs.Outside.{BothTell, WhereTold, Cause};
 ghost use Rattle.ports.specs.Desk.{TakesFirst};
 ghost use Rattle.certdef.specs.Accepted.{IsAcceptedText};
 ghost use Rattle.certdef.specs.Bytes.{start, verdict};
-ghost use Rattle.certcheck.specs.Answers.{verdict_of, IsYes};
+ghost use Rattle.certcheck.specs.Answers.{verdict_of, IsYes, count_taken, HasNoRefusal};
 ghost use Rattle.certcheck.specs.Stages.{Stands};
 ghost use Rattle.certcheck.specs.Readings.{reading_of};
 
@@ -19,8 +19,11 @@ use verdict::yes_is_accepted_text;
 const BLOCK: usize = 1 << 16;
 
 /// The verdict on the bytes that are left for the desk's proof: yes with a length exactly where they are a text that is accepted
-/// with it, and else the first refusal, by the line that it is told at. A text is read in pieces of at most 65,536 bytes, and no
-/// further than to its first refusal.
+/// with it, and else the first refusal, by the line that it is told at.
+///
+/// Whatever the answer, at most 2^60 + 1 bytes are taken: one more than a text may have shows that it is too long. They are taken in
+/// pieces of at most 65,536 bytes, each judged before the next is asked for, and none is asked for behind a refusal: that stands in
+/// the last 65,536 bytes that were taken, and what is behind them stays on the desk. After a yes nothing is left.
 ///
 /// A leaf costs one pass over the pairs of cities; other lines cost O(1) a byte, and a split O(depth).
 pub fn check<D: Desk>(
@@ -32,6 +35,8 @@ pub fn check<D: Desk>(
     ensures accepted { IfOk result (λ a. WhereTold (λ t. (l : ℕ) → (a ≡ Answer.Yes l) ↔ IsAcceptedText instance.now t.proof_in l) (D.told desk.old)) }
     ensures whole { IfOk result (λ a. IsYes a → BothTell (λ t u. u.proof_in ≡ []) (D.told desk.old) (D.told desk.new)) }
     ensures taken { (k : ℕ) × BothTell (TakesFirst Inlet.Proof k) (D.told desk.old) (D.told desk.new) }
+    ensures few { BothTell (λ t u. count_taken t u ≤ 2 ^ 60 + 1) (D.told desk.old) (D.told desk.new) }
+    ensures needed { BothTell (λ t u. HasNoRefusal instance.now (take (count_taken t u - 65536) t.proof_in)) (D.told desk.old) (D.told desk.new) }
     ensures cause { Cause (IsErrOf result CheckError.Failed) (D.read_faults desk.old) (D.read_faults desk.new) }
     ensures same { D.write_faults desk.new ≡ D.write_faults desk.old }
 {
@@ -45,6 +50,8 @@ fn judge<D: Desk>(alloc: Global, instance: &Instance, desk: &mut D) -> Result<An
     ensures judged { IfOk result (λ a. WhereTold (λ t. verdict_of a ≡ verdict instance.now t.proof_in) (D.told desk.old)) }
     ensures whole { IfOk result (λ a. IsYes a → BothTell (λ t u. u.proof_in ≡ []) (D.told desk.old) (D.told desk.new)) }
     ensures taken { (k : ℕ) × BothTell (TakesFirst Inlet.Proof k) (D.told desk.old) (D.told desk.new) }
+    ensures few { BothTell (λ t u. count_taken t u ≤ 2 ^ 60 + 1) (D.told desk.old) (D.told desk.new) }
+    ensures needed { BothTell (λ t u. HasNoRefusal instance.now (take (count_taken t u - 65536) t.proof_in)) (D.told desk.old) (D.told desk.new) }
     ensures cause { Cause (IsErrOf result CheckError.Failed) (D.read_faults desk.old) (D.read_faults desk.new) }
     ensures same { D.write_faults desk.new ≡ D.write_faults desk.old }
 {
@@ -62,20 +69,25 @@ fn read_through<D: Desk>(
     reading: &mut Reading,
 ) -> Result<Answer, CheckError>
     requires room { 0 < length block.old }
+    requires piece { length block.old ≤ 65536 }
     requires start { reading_of reading.old ≡ start }
     requires stands { Stands instance.now.n reading.old.progress }
     ensures judged { IfOk result (λ a. WhereTold (λ t. verdict_of a ≡ verdict instance.now t.proof_in) (D.told desk.old)) }
     ensures whole { IfOk result (λ a. IsYes a → BothTell (λ t u. u.proof_in ≡ []) (D.told desk.old) (D.told desk.new)) }
     ensures taken { (k : ℕ) × BothTell (TakesFirst Inlet.Proof k) (D.told desk.old) (D.told desk.new) }
+    ensures few { BothTell (λ t u. count_taken t u ≤ 2 ^ 60 + 1) (D.told desk.old) (D.told desk.new) }
+    ensures needed { BothTell (λ t u. HasNoRefusal instance.now (take (count_taken t u - 65536) t.proof_in)) (D.told desk.old) (D.told desk.new) }
     ensures cause { Cause (IsErrOf result CheckError.Failed) (D.read_faults desk.old) (D.read_faults desk.new) }
     ensures same { D.write_faults desk.new ≡ D.write_faults desk.old }
 {
     loop {
-        let count = desk.read(Inlet::Proof, block)?;
+        let most = reading.wanted(block.len());
+        let piece = &mut block[..most];
+        let count = desk.read(Inlet::Proof, piece)?;
         if count == 0 {
             return Ok(reading.finish());
         }
-        match reading.feed(alloc, instance, &block[..count]) {
+        match reading.feed(alloc, instance, &piece[..count]) {
             Ok(()) => {}
             Err(trouble) => return trouble.answer(),
         }

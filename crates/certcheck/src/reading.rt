@@ -153,12 +153,18 @@ impl Reading {
         self.run(alloc, instance, rest)
     }
 
-    /// How many bytes were read.
-    pub(crate) fn read(&self) -> u64
-        ensures value { result ≡ self.now.count.read }
-        ensures few { result ≤ 2 ^ 60 }
+    /// How many of so many bytes may be asked for: as many as there may be, and one that shows that there are too many.
+    pub(crate) fn wanted(&self, room: usize) -> usize
+        ensures some { 0 < room → 0 < result }
+        ensures fits { result ≤ room }
+        ensures few { self.now.count.read + result ≤ 2 ^ 60 + 1 }
     {
-        self.count.read()
+        let left = MOST + 1 - self.count.read();
+        if left < room as u64 {
+            left as usize
+        } else {
+            room
+        }
     }
 
     /// What becomes of the text if it ends here.

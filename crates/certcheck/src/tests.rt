@@ -103,6 +103,19 @@ fn bytes_behind_the_tree_are_refused(rt: HostRuntime) -> Result<(), Fail> {
 }
 
 #[test]
+fn what_stands_behind_the_piece_of_a_refusal_is_left(rt: HostRuntime) -> Result<(), Fail> {
+    let alloc = rt.alloc();
+    let text = format!(in alloc; "{HEAD}O\n{DUALS}{DUALS}")?;
+    let mut desk = desk(alloc, &text, 10, &[])?;
+    assert_eq!(rt;
+        check(alloc, &square(alloc)?, &mut desk),
+        Ok(Answer::No(8, 6))
+    );
+    assert_eq!(rt; desk.left(Inlet::Proof).len() + 50, text.len());
+    Ok(())
+}
+
+#[test]
 fn both_children_of_a_split_are_wanted(rt: HostRuntime) -> Result<(), Fail> {
     let alloc = rt.alloc();
     let edge = format!(in alloc; "{HEAD}E 1 3\n{DUALS}{DUALS}")?;

@@ -17,7 +17,7 @@ use Rattle.certform.specs.Written.{from_one, listed, written_cities, written_cut
 use Rattle.certform.specs.Faithful.{AreAlike}
 use Rattle.certform.proofs.Numbering.{HasAllOf}
 use Rattle.certform.specs.Listing.{AreListed}
-use Rattle.certform.proofs.Sorting.{named, length-written_cuts, worth_same, price_same, all_same}
+use Rattle.certform.proofs.Sorting.{named, length-written_cuts, worth_same, price_same, duals_same, all_same}
 
 -- ---- cities and cuts
 
@@ -137,13 +137,13 @@ sound_again i number path cs (trees.edge_split u v a b) h s =
 sound_again i number path cs (trees.clique_split q a b) h s =
     (s.0, (sound_again i number (path ++ two q ∷ []) cs a h.0 s.1.0, sound_again i number (path ++ four q ∷ []) cs b h.1 s.1.1))
 
-pub alike_again : (i : Instance) (number : ℤ) (path : List Condition) (cs : List Cut) (t : Tree) → IsSound i number path t → AreAlike t (tree_again_in i.n cs t)
-alike_again i number path cs trees.open_leaf s = tt
-alike_again i number path cs (trees.closed_leaf c) s = (city_again i.n cs c s.0.counts.city, refl)
-alike_again i number path cs (trees.edge_split u v a b) s =
-    ((refl, refl), (alike_again i number (path ++ absent u v ∷ []) cs a s.1.0, alike_again i number (path ++ present u v ∷ []) cs b s.1.1))
-alike_again i number path cs (trees.clique_split q a b) s =
-    (refl, (alike_again i number (path ++ two q ∷ []) cs a s.1.0, alike_again i number (path ++ four q ∷ []) cs b s.1.1))
+pub alike_again : (i : Instance) (number : ℤ) (path : List Condition) (cs : List Cut) (t : Tree) → HasAllOf cs t → IsSound i number path t → AreAlike t (tree_again_in i.n cs t)
+alike_again i number path cs trees.open_leaf h s = tt
+alike_again i number path cs (trees.closed_leaf c) h s = (city_again i.n cs c s.0.counts.city, (λ d. duals_same d cs c.cuts h), refl)
+alike_again i number path cs (trees.edge_split u v a b) h s =
+    ((refl, refl), (alike_again i number (path ++ absent u v ∷ []) cs a h.0 s.1.0, alike_again i number (path ++ present u v ∷ []) cs b h.1 s.1.1))
+alike_again i number path cs (trees.clique_split q a b) h s =
+    (refl, (alike_again i number (path ++ two q ∷ []) cs a h.0 s.1.0, alike_again i number (path ++ four q ∷ []) cs b h.1 s.1.1))
 
 pub open_again : (n : ℕ) (cs : List Cut) (t : Tree) → open_leaves (tree_again_in n cs t) ≡ open_leaves t
 open_again n cs trees.open_leaf = refl

@@ -10,3 +10,4 @@ mod Whole
 mod Bodies
 mod Permuting
 mod Loops
+pub mod PlaceLemmas

@@ -1,5 +1,5 @@
 -- Numbered duals by rising numbers.
-use Rattle.std.proofs.Common.{◌≡◌, ℕ, ◌+◌, ◌*◌, ◌<◌, ◌≤◌, true, false, ◌&&◌, List, [], ◌∷◌, length, map, refl, sym, ◌∙◌, ap, subst, arith}
+use Rattle.std.proofs.Common.{◌≡◌, ℕ, ◌+◌, ◌*◌, ◌<◌, ◌≤◌, true, false, cond, ◌&&◌, List, [], ◌∷◌, length, map, refl, sym, ◌∙◌, ap, subst, arith}
 use Rattle.std.specs.Prelude.{nat_le, ◌==◌, ℤ, pos, ◌+ℤ◌}
 use Rattle.std.specs.List.{AllByRecursion}
 use Rattle.std.proofs.lemmas.Bool.{or_from, and_from, and_parts, or_parts, cond_both, false≢true, leb-true, leb-false, le-leb, ne_eqb}
@@ -10,8 +10,9 @@ use Rattle.tspdef.specs.Closings.{AreRisingCuts}
 use Rattle.tspdef.specs.Bounds.{cut_rows, price, worth}
 use Rattle.certdef.specs.Items.{rises}
 use Rattle.certdef.specs.Accepted.{cut_at, firsts}
-use Rattle.certform.specs.Written.{number_of, put_in, written_cuts}
+use Rattle.certform.specs.Written.{is_same_cut, number_of, put_in, written_cuts}
 use Rattle.certform.specs.Listing.{IsListed, AreListed}
+use Rattle.certform.specs.Faithful.{dual_of_cut}
 use Rattle.certform.proofs.Numbering.{AreGreater, number_some, number_within, cut_numbered, all_greater, rising_rest, apart}
 
 -- what holds of the list with q put in holds of either case
@@ -110,6 +111,23 @@ price_same u v cs (q ∷ qs) h =
     price_put u v cs (number_of cs q.0, q.1) (written_cuts cs qs)
     ∙ ap (λ w. w +ℤ pos (q.1 * coefficient (sets_of (cut_at cs (number_of cs q.0))) u v)) (price_same u v cs qs h.1)
     ∙ ap (λ (c : Cut). price (cut_rows qs) u v +ℤ pos (q.1 * coefficient (sets_of c) u v)) e
+
+swap_last : (w a b : ℕ) → (w + a) + b ≡ (w + b) + a
+swap_last w a b = omega arith
+
+dual_put : (d : Cut) (cs : List Cut) (q : ℕ × ℕ) (xs : List (ℕ × ℕ)) → dual_of_cut d (map (named cs) (put_in q xs)) ≡ dual_of_cut d (map (named cs) (q ∷ xs))
+dual_put d cs q [] = refl
+dual_put d cs q (r ∷ rs) = put_cases (λ ys. dual_of_cut d (map (named cs) ys) ≡ dual_of_cut d (map (named cs) (q ∷ r ∷ rs))) q r rs (λ l. refl)
+    (λ l. ap (λ w. w + cond (is_same_cut d (cut_at cs r.0)) r.1 0) (dual_put d cs q rs)
+    ∙ swap_last (dual_of_cut d (map (named cs) rs)) (cond (is_same_cut d (cut_at cs q.0)) q.1 0) (cond (is_same_cut d (cut_at cs r.0)) r.1 0))
+
+pub duals_same : (d : Cut) (cs : List Cut) (qs : List (Cut × ℕ)) → AreListed cs qs → dual_of_cut d (map (named cs) (written_cuts cs qs)) ≡ dual_of_cut d qs
+duals_same d cs [] h = refl
+duals_same d cs (q ∷ qs) h =
+    let e = cut_numbered cs q.0 h.0 in
+    dual_put d cs (number_of cs q.0, q.1) (written_cuts cs qs)
+    ∙ ap (λ w. w + cond (is_same_cut d (cut_at cs (number_of cs q.0))) q.1 0) (duals_same d cs qs h.1)
+    ∙ ap (λ (c : Cut). dual_of_cut d qs + cond (is_same_cut d c) q.1 0) e
 
 all_named : (P : (Cut × ℕ) → Type 0) (cs : List Cut) (xs : List (ℕ × ℕ)) → AllByRecursion (λ q. P (named cs q)) xs → AllByRecursion P (map (named cs) xs)
 all_named P cs [] h = tt

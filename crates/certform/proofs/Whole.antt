@@ -8,7 +8,9 @@ use Rattle.tspdef.specs.Instances.{Instance, IsInstance, IsTourOf, length_in, di
 use Rattle.tspdef.specs.Bounds.{needed}
 use Rattle.tspdef.specs.Trees.{Tree, IsSoundFor, open_leaves, settled}
 use Rattle.certdef.specs.Proofs.{Proof, listed_items, tree_items, items, text}
-use Rattle.certdef.specs.Accepted.{cuts_of, tree_of, tree_in, HasForm, IsSoundProof, most_bytes, LeavesRise}
+use Rattle.certdef.specs.Accepted.{cuts_of, tree_of, tree_in, HasForm, most_bytes, LeavesRise}
+use Rattle.certdef.specs.Restarts.{IsSoundProof}
+use Rattle.certdef.proofs.Restarts.{closed_is_accepted}
 use Rattle.certform.specs.Written.{from_one, listed, used_cuts, written_tree, written}
 use Rattle.certform.specs.Faithful.{IsFitting, AreAlike, IsFaithful, WrittenIsFaithful, FaithfulIsAccepted}
 use Rattle.certform.proofs.Numbering.{tree_added, tree_cuts_are_cuts, few_cuts, HasAllOf}
@@ -101,10 +103,12 @@ module _ (i : Instance) (tour : List ℕ) (l : ℕ) (t : Tree) (inst : IsInstanc
   is_sound : IsSoundProof i l p
   is_sound =
       let back = cities_again tour in record {
-        size = refl;
-        same = refl;
-        cuts = subst (AllByRecursion (IsCut i.n)) (sym cuts_back) are_cuts;
-        from_one = from_one_some tour;
+        about = record {
+          size = refl;
+          same = refl;
+          cuts = subst (AllByRecursion (IsCut i.n)) (sym cuts_back) are_cuts;
+          from_one = from_one_some tour;
+        };
         is_tour = subst (IsTourOf i) (sym back) is_tour;
         canonical = subst IsCanonical (sym back) canonical;
         long = long ∙ ap (length_in i) (sym back);
@@ -124,7 +128,7 @@ module _ (i : Instance) (tour : List ℕ) (l : ℕ) (t : Tree) (inst : IsInstanc
   faithful = record {
     form = has_form;
     sound = is_sound;
-    alike = subst (AreAlike t) (sym tree_back) (alike_again i (needed l) [] cs t sound);
+    alike = subst (AreAlike t) (sym tree_back) (alike_again i (needed l) [] cs t has_all sound);
     opened = ap open_leaves tree_back ∙ open_again i.n cs t;
     settled = ap settled tree_back ∙ settled_again i.n cs t;
     size = short;
@@ -135,4 +139,4 @@ written_is_faithful i tour l t inst is_tour canonical long sound fitting few = f
 
 pub faithful_is_accepted : FaithfulIsAccepted
 faithful_is_accepted i l t value f none =
-    (f.size, value, record { text = refl; form = f.form; accepted = record { sound = f.sound; none_open = f.opened ∙ none } })
+    (f.size, value, record { text = refl; form = f.form; accepted = closed_is_accepted i l value f.sound (f.opened ∙ none) })

@@ -1,15 +1,17 @@
 -- What is written says what the tree says.
-use Rattle.std.specs.Prelude.{◌≡◌, ℕ, ◌+◌, ◌≤◌, false, List, [], ◌∷◌, ◌++◌, length}
+use Rattle.std.specs.Prelude.{◌≡◌, ℕ, ◌+◌, ◌≤◌, false, cond, List, [], ◌∷◌, ◌++◌, length}
 use Rattle.tspdef.specs.Sets.{IsProper}
+use Rattle.tspdef.specs.Cuts.{Cut}
 use Rattle.tspdef.specs.Tours.{IsCanonical}
 use Rattle.tspdef.specs.Instances.{Instance, IsInstance, IsTourOf, length_in}
 use Rattle.tspdef.specs.Paths.{Condition, absent, present, two, four, is_decided, IsPair}
 use Rattle.tspdef.specs.Closings.{Fits}
 use Rattle.tspdef.specs.Trees.{Tree, open_leaf, closed_leaf, edge_split, clique_split, IsSoundFor, open_leaves, settled}
 use Rattle.certdef.specs.Proofs.{Proof, text}
-use Rattle.certdef.specs.Accepted.{HasForm, IsSoundProof, IsAcceptedText, tree_in, most_bytes}
+use Rattle.certdef.specs.Accepted.{HasForm, IsAcceptedText, tree_in, most_bytes}
+use Rattle.certdef.specs.Restarts.{IsSoundProof}
 use Rattle.treebook.specs.Tables.{Node, IsTable, tree_of}
-use Rattle.certform.specs.Written.{written}
+use Rattle.certform.specs.Written.{is_same_cut, written}
 
 -- Each closed leaf has a closing that fits there, each edge split an undecided pair, each clique split a proper set.
 abbrev pub IsFitting : ℕ → List Condition → Tree → Type 0
@@ -18,10 +20,19 @@ IsFitting n path (closed_leaf c) = Fits n path c
 IsFitting n path (edge_split u v a b) = (IsPair n u v × (is_decided path u v ≡ false)) × (IsFitting n (path ++ absent u v ∷ []) a × IsFitting n (path ++ present u v ∷ []) b)
 IsFitting n path (clique_split s a b) = IsProper n s × (IsFitting n (path ++ two s ∷ []) a × IsFitting n (path ++ four s ∷ []) b)
 
--- two trees are alike but for the order of the cuts in their leaves
+-- the dual of a cut in a list, equal cuts added up
+abbrev pub dual_of_cut : Cut → List (Cut × ℕ) → ℕ
+dual_of_cut c [] = 0
+dual_of_cut c (q ∷ qs) = dual_of_cut c qs + cond (is_same_cut c q.0) q.1 0
+
+-- each cut has the same dual in both lists, equal cuts added up; so where duals are at least 1 they name the same cuts
+abbrev pub HaveSameDuals : List (Cut × ℕ) → List (Cut × ℕ) → Type 0
+HaveSameDuals ps qs = (c : Cut) → dual_of_cut c qs ≡ dual_of_cut c ps
+
+-- two trees are the same but for the order of the cuts in their leaves
 abbrev pub AreAlike : Tree → Tree → Type 0
 AreAlike open_leaf open_leaf = Unit {0}
-AreAlike (closed_leaf c) (closed_leaf d) = (d.city ≡ c.city) × (d.conds ≡ c.conds)
+AreAlike (closed_leaf c) (closed_leaf d) = (d.city ≡ c.city) × HaveSameDuals c.cuts d.cuts × (d.conds ≡ c.conds)
 AreAlike (edge_split u v a b) (edge_split x y c d) = ((x ≡ u) × (y ≡ v)) × (AreAlike a c × AreAlike b d)
 AreAlike (clique_split s a b) (clique_split r c d) = (r ≡ s) × (AreAlike a c × AreAlike b d)
 AreAlike _ _ = ⊥
@@ -35,7 +46,7 @@ pub record IsFaithful (i : Instance) (l : ℕ) (t : Tree) (p : Proof) : Type 0 w
   pub size : length (text p) ≤ most_bytes
 
 -- What is written for a canonical tour, its length and a sound tree of at most 2^20 nodes is of the grammar, sound and has
--- the same tree; so it is accepted where no leaf is open.
+-- the same tree, but for the order of the cuts in a leaf; so it is accepted where no leaf is open.
 abbrev pub WrittenIsFaithful : Type 0
 WrittenIsFaithful = (i : Instance) (tour : List ℕ) (l : ℕ) (t : Tree) → IsInstance i → IsTourOf i tour → IsCanonical tour
     → l ≡ length_in i tour → IsSoundFor i l t → IsFitting i.n [] t → open_leaves t + settled t ≤ 1048576

@@ -1,7 +1,7 @@
 -- Where a reader of the form stands.
 use Rattle.std.specs.Prelude.{ℕ}
-use Rattle.certdef.specs.Forms as forms
-use Rattle.certdef.specs.Forms.{Form, DualsLeft}
+use Rattle.verdict.specs.Forms as forms
+use Rattle.verdict.specs.Forms.{Form, DualsLeft}
 use Rattle.certform.specs.declared.place.Left.{Left}
 use Rattle.certform.specs.declared.place.Place.{Place}
 use Rattle.certform.specs.declared.place.Place.TheVariants as places

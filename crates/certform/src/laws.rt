@@ -1,7 +1,8 @@
 //! The laws of what is written.
 ghost use Rattle.certform.specs.Faithful.{FaithfulIsAccepted, TablesFit, WrittenIsFaithful};
 
-/// What is written for a canonical tour, its length and a sound tree is of the grammar, sound, and has the same tree.
+/// What is written for a canonical tour, its length and a sound tree is of the grammar, sound, and has the same tree: its splits, and in
+/// each leaf the same duals of cities, cuts and conditions. Only the order of a leaf's cuts may differ.
 pub fn written_is_faithful()
     ensures { WrittenIsFaithful }
 {}

@@ -1,8 +1,9 @@
 //! Which line must come, and what comes after it.
-ghost use Rattle.std.specs.Prelude.{◌≡◌, ◌+◌, ◌-◌, ◌<◌, suc, IfOk, IsErrOf};
-ghost use Rattle.certdef.specs.Forms.{at_trees, cuts_then, teeth_then, duals_then, form_dual, form_tree, form_cut, form_step};
+ghost use Rattle.std.specs.Prelude.{◌≡◌, ◌+◌, suc, ℕ, ℤ, IfOk, IsErrOf};
+ghost use Rattle.certdef.specs.Items.{city_line, cut_line, condition_line};
+ghost use Rattle.verdict.specs.Forms.{at_trees, cuts_then, teeth_then, duals_then, form_dual, form_tree, form_cut, form_step};
 ghost use Rattle.certline.specs.Said.{said};
-ghost use Rattle.certform.specs.Reading.{form_of};
+ghost use Rattle.certform.specs.Reading.{left_of, form_of};
 
 use crate::error::LineError;
 use certline::Item;
@@ -114,8 +115,9 @@ fn teeth_on(more: u32, listed: u64, teeth: u32) -> Result<Place, LineError>
 }
 
 /// So many lines of a leaf are to come, and then trees.
+#[tactic(auto, using(crate::proofs::PlaceLemmas::nothing_left, crate::proofs::PlaceLemmas::some_left))]
 fn duals_on(trees: u64, listed: u64, left: Left) -> Place
-    ensures { form_of result ≡ duals_then trees listed left.cities left.cuts left.conds left.city left.cut left.depth }
+    ensures { form_of result ≡ duals_then trees listed (left_of left) }
 {
     if left.cities != 0 || left.cuts != 0 || left.conds != 0 {
         Place::Duals(trees, listed, left)
@@ -169,32 +171,27 @@ fn after_tree(trees: u64, listed: u64, item: &Item) -> Result<Place, LineError>
 }
 
 fn after_dual(trees: u64, listed: u64, left: Left, item: &Item) -> Result<Place, LineError>
-    ensures next { IfOk result (λ p. form_dual trees listed left.cities left.cuts left.conds left.city left.cut left.depth (said item.now) ≡ Some (form_of p)) }
-    ensures refused { IsErrOf result LineError.NotALine
-        → form_dual trees listed left.cities left.cuts left.conds left.city left.cut left.depth (said item.now) ≡ None }
+    ensures next { IfOk result (λ p. form_dual trees listed (left_of left) (said item.now) ≡ Some (form_of p)) }
+    ensures refused { IsErrOf result LineError.NotALine → form_dual trees listed (left_of left) (said item.now) ≡ None }
 {
-    if left.cities != 0 {
-        after_city(trees, listed, left, item)
-    } else if left.cuts != 0 {
-        after_cut_dual(trees, listed, left, item)
-    } else if left.conds != 0 {
-        after_condition(trees, listed, left, item)
-    } else {
-        Err(LineError::NotALine)
+    match item {
+        Item::City(city, _) => after_city(trees, listed, left, *city),
+        Item::CutDual(cut, _) => after_cut_dual(trees, listed, left, *cut),
+        Item::CondDual(depth, _) => after_condition(trees, listed, left, *depth),
+        _ => Err(LineError::NotALine),
     }
 }
 
-fn after_city(trees: u64, listed: u64, left: Left, item: &Item) -> Result<Place, LineError>
-    requires { 0 < left.cities }
-    ensures next { IfOk result (λ p. form_dual trees listed (suc (left.cities - 1)) left.cuts left.conds left.city left.cut left.depth (said item.now)
-        ≡ Some (form_of p)) }
+/// Whatever the dual is.
+fn after_city(trees: u64, listed: u64, left: Left, city: u32) -> Result<Place, LineError>
+    ensures next { IfOk result (λ p. (dual : ℤ) → form_dual trees listed (left_of left) (city_line city dual) ≡ Some (form_of p)) }
     ensures refused { IsErrOf result LineError.NotALine
-        → form_dual trees listed (suc (left.cities - 1)) left.cuts left.conds left.city left.cut left.depth (said item.now) ≡ None }
+        → (dual : ℤ) → form_dual trees listed (left_of left) (city_line city dual) ≡ None }
 {
-    let Item::City(city, _) = item else {
+    let city = u64::from(city);
+    if left.cities == 0 {
         return Err(LineError::NotALine);
-    };
-    let city = u64::from(*city);
+    }
     if city < left.city {
         return Err(LineError::NotALine);
     }
@@ -206,22 +203,20 @@ fn after_city(trees: u64, listed: u64, left: Left, item: &Item) -> Result<Place,
     Ok(duals_on(trees, listed, left))
 }
 
-fn after_cut_dual(trees: u64, listed: u64, left: Left, item: &Item) -> Result<Place, LineError>
-    requires { 0 < left.cuts }
-    ensures next { IfOk result (λ p. form_dual trees listed 0 (suc (left.cuts - 1)) left.conds left.city left.cut left.depth (said item.now)
-        ≡ Some (form_of p)) }
+/// Whatever the dual is.
+fn after_cut_dual(trees: u64, listed: u64, left: Left, cut: u32) -> Result<Place, LineError>
+    ensures next { IfOk result (λ p. (dual : ℕ) → form_dual trees listed (left_of left) (cut_line cut dual) ≡ Some (form_of p)) }
     ensures refused { IsErrOf result LineError.NotALine
-        → form_dual trees listed 0 (suc (left.cuts - 1)) left.conds left.city left.cut left.depth (said item.now) ≡ None }
+        → (dual : ℕ) → form_dual trees listed (left_of left) (cut_line cut dual) ≡ None }
 {
-    let Item::CutDual(cut, _) = item else {
+    let cut = u64::from(cut);
+    if left.cities != 0 || left.cuts == 0 {
         return Err(LineError::NotALine);
-    };
-    let cut = u64::from(*cut);
+    }
     if cut < left.cut || cut > listed {
         return Err(LineError::NotALine);
     }
     let left = Left {
-        cities: 0,
         cuts: left.cuts - 1,
         cut: cut + 1,
         ..left
@@ -229,23 +224,20 @@ fn after_cut_dual(trees: u64, listed: u64, left: Left, item: &Item) -> Result<Pl
     Ok(duals_on(trees, listed, left))
 }
 
-fn after_condition(trees: u64, listed: u64, left: Left, item: &Item) -> Result<Place, LineError>
-    requires { 0 < left.conds }
-    ensures next { IfOk result (λ p. form_dual trees listed 0 0 (suc (left.conds - 1)) left.city left.cut left.depth (said item.now)
-        ≡ Some (form_of p)) }
+/// Whatever the dual is.
+fn after_condition(trees: u64, listed: u64, left: Left, depth: u32) -> Result<Place, LineError>
+    ensures next { IfOk result (λ p. (dual : ℕ) → form_dual trees listed (left_of left) (condition_line depth dual) ≡ Some (form_of p)) }
     ensures refused { IsErrOf result LineError.NotALine
-        → form_dual trees listed 0 0 (suc (left.conds - 1)) left.city left.cut left.depth (said item.now) ≡ None }
+        → (dual : ℕ) → form_dual trees listed (left_of left) (condition_line depth dual) ≡ None }
 {
-    let Item::CondDual(depth, _) = item else {
+    let depth = u64::from(depth);
+    if left.cities != 0 || left.cuts != 0 || left.conds == 0 {
         return Err(LineError::NotALine);
-    };
-    let depth = u64::from(*depth);
+    }
     if depth < left.depth {
         return Err(LineError::NotALine);
     }
     let left = Left {
-        cities: 0,
-        cuts: 0,
         conds: left.conds - 1,
         depth: depth + 1,
         ..left

@@ -1,6 +1,6 @@
 //! A reader of the form.
 ghost use Rattle.std.specs.Prelude.{◌≡◌, IfOk, OnErr, IsErrOf};
-ghost use Rattle.certdef.specs.Forms.{at_title, line_next, is_ended};
+ghost use Rattle.verdict.specs.Forms.{at_title, line_next, is_ended};
 ghost use Rattle.certline.specs.Said.{said};
 
 use crate::error::LineError;

@@ -1,12 +1,12 @@
 -- What values add up to over the sets of a cut, set by set and city by city.
-use Rattle.std.proofs.Common.{◌≡◌, ℕ, ◌+◌, ◌*◌, ◌^◌, ◌<◌, ◌≤◌, ◌-◌, Bool, true, false, not, cond, ◌==◌, ◌||◌, List, [], ◌∷◌, sum_by, ℤ, leb, nat_le, int_le, pos, ◌-ℤ◌, T, refl, sym, ap, ◌∙◌, arith}
+use Rattle.std.proofs.Common.{◌≡◌, ℕ, ◌+◌, ◌*◌, ◌<◌, ◌≤◌, ◌-◌, Bool, true, false, not, cond, ◌==◌, ◌||◌, List, [], ◌∷◌, sum_by, ℤ, nat_le, int_le, pos, ◌-ℤ◌, T, refl, sym, ap, ◌∙◌, arith}
 use Rattle.std.specs.Prelude.{◌≤ℤ◌}
 use Rattle.std.proofs.lemmas.Bool.{ne_eqb, eqb-true, leb-true, le-leb}
 use Rattle.std.proofs.lemmas.Int.{ints}
 use Rattle.std.proofs.lemmas.Float.{T_from_true}
 use Rattle.std.proofs.lemmas.List.Sums.{sum_by-cons}
 use Rattle.std.specs.List.{AllByRecursion}
-use Rattle.tspdef.specs.Sets.{has, RisesFrom, IsSet, IsProper}
+use Rattle.tspdef.specs.Sets.{has, RisesFrom, IsSet}
 use Rattle.tspdef.specs.Tours.{crosses}
 use Rattle.tspdef.specs.Cuts.{Cut, subtour, comb, sets_of, right_side, coefficient, IsTooth, IsCut}
 use Rattle.tspdef.specs.Bounds.{scale, violation}

@@ -67,7 +67,12 @@ fn an_equal_cut_has_the_number_of_the_first(rt: HostRuntime) -> Result<(), Fail>
 }
 
 /// Shares a cut, and fetches by a box's bound.
-fn given_back<B: CutBox>(alloc: Global, cuts: &mut B, cut: &Cut, x: &Frac) -> Result<Vec<Cut>, Fail> {
+fn given_back<B: CutBox>(
+    alloc: Global,
+    cuts: &mut B,
+    cut: &Cut,
+    x: &Frac,
+) -> Result<Vec<Cut>, Fail> {
     cuts.share(alloc, cut)?;
     Ok(cuts.fetch(alloc, x)?)
 }
@@ -86,37 +91,5 @@ fn a_box_passes_over_cuts_of_other_cities(rt: HostRuntime) -> Result<(), Fail> {
     let wider = Frac::new(alloc, 7, Vec::new(alloc))?;
     assert!(rt; pool.fetch(alloc, &wider)?.is_empty());
     assert!(rt; given_back(alloc, &mut NoCuts, &comb(alloc)?, &x)?.is_empty());
-    Ok(())
-}
-
-/// The cities below 17 whose bits are set.
-fn members(alloc: Global, bits: u32) -> Result<Vec<u32>, Fail> {
-    let mut cities = Vec::new(alloc);
-    for city in 0..17u32 {
-        if (bits >> city) & 1 == 1 {
-            cities.push(city)?;
-        }
-    }
-    Ok(cities)
-}
-
-#[test]
-fn a_full_pool_takes_no_new_cut(rt: HostRuntime) -> Result<(), Fail> {
-    let alloc = rt.alloc();
-    let mut pool = CutPool::new(alloc, 17);
-    assert_eq!(rt; pool.n(), 17);
-    for bits in 0..65_536u32 {
-        let cut = subtour(alloc, 17, &members(alloc, bits + 1)?)?;
-        assert_eq!(rt; cut.n(), 17);
-        assert_eq!(rt; pool.put(alloc, &cut)?, Placed::Number(bits));
-    }
-    let new = subtour(alloc, 17, &members(alloc, 65_537)?)?;
-    assert_eq!(rt; new.n(), 17);
-    assert_eq!(rt; pool.put(alloc, &new)?, Placed::Full);
-    let old = subtour(alloc, 17, &members(alloc, 41)?)?;
-    assert_eq!(rt; old.n(), 17);
-    assert_eq!(rt; pool.put(alloc, &old)?, Placed::Number(40));
-    pool.share(alloc, &new)?;
-    assert_eq!(rt; pool.len(), 65_536);
     Ok(())
 }

@@ -7,6 +7,7 @@ use Rattle.certdef.specs.Bytes.{start, reads}
 use Rattle.certcheck.specs.Readings.{reading_of}
 use Rattle.certcheck.proofs.ReadingLemmas.{in_turn}
 use Rattle.certcheck.proofs.CheckLemmas.{refusal_told, read_grows}
+use Rattle.certcheck.proofs.TakenLemmas.{taken_after, taken_before}
 use Rattle.certcheck.proofs.checking.read_through.Goals as goal
 
 pub returns-in_err-count-clause-taken : goal.returns-in_err-count-clause-taken
@@ -52,3 +53,45 @@ returns-in-Err-clause-taken g c =
     let new = take c.in_ok-count.count c.read.new.buf in
     let k = takes_once_more inlet.Proof old new (length old + length new) _ _ _ c.loop-count.invariant.takes c.in_ok-count.ensures.bytes (omega arith) in
     (k.0, k.2)
+
+pub returns-in_err-count-clause-few : goal.returns-in_err-count-clause-few
+returns-in_err-count-clause-few g c =
+    (taken_before c.args.instance.now c.loop-count.invariant.bytes (reading_of c.loop-count.reading) _ _ _ c.loop-count.invariant.takes c.in_err-count.ensures.err c.loop-count.invariant.leads
+    (omega (arith, c.loop-count.reading.count.few))).0
+
+pub returns-in_err-count-clause-needed : goal.returns-in_err-count-clause-needed
+returns-in_err-count-clause-needed g c =
+    (taken_before c.args.instance.now c.loop-count.invariant.bytes (reading_of c.loop-count.reading) _ _ _ c.loop-count.invariant.takes c.in_err-count.ensures.err c.loop-count.invariant.leads
+    (omega (arith, c.loop-count.reading.count.few))).1
+
+pub returns-then-count-eq0-clause-few : goal.returns-then-count-eq0-clause-few
+returns-then-count-eq0-clause-few g c =
+    let new = take c.in_ok-count.count c.read.new.buf in
+    let some = length-take c.in_ok-count.count c.read.new.buf in
+    (taken_after c.args.instance.now c.loop-count.invariant.bytes new (reading_of c.loop-count.reading) _ _ _ c.loop-count.invariant.takes c.in_ok-count.ensures.bytes c.loop-count.invariant.leads
+    (omega (arith, some, c.requires.piece, c.in_ok-count.ensures.within, c.read.auto.buf, c.wanted-most.ensures.fits, c.loop-count.auto.block))
+    (omega (arith, some, c.in_ok-count.ensures.within, c.read.auto.buf, c.wanted-most.ensures.few, c.loop-count.auto.block))).0
+
+pub returns-then-count-eq0-clause-needed : goal.returns-then-count-eq0-clause-needed
+returns-then-count-eq0-clause-needed g c =
+    let new = take c.in_ok-count.count c.read.new.buf in
+    let some = length-take c.in_ok-count.count c.read.new.buf in
+    (taken_after c.args.instance.now c.loop-count.invariant.bytes new (reading_of c.loop-count.reading) _ _ _ c.loop-count.invariant.takes c.in_ok-count.ensures.bytes c.loop-count.invariant.leads
+    (omega (arith, some, c.requires.piece, c.in_ok-count.ensures.within, c.read.auto.buf, c.wanted-most.ensures.fits, c.loop-count.auto.block))
+    (omega (arith, some, c.in_ok-count.ensures.within, c.read.auto.buf, c.wanted-most.ensures.few, c.loop-count.auto.block))).1
+
+pub returns-in-Err-clause-few : goal.returns-in-Err-clause-few
+returns-in-Err-clause-few g c =
+    let new = take c.in_ok-count.count c.read.new.buf in
+    let some = length-take c.in_ok-count.count c.read.new.buf in
+    (taken_after c.args.instance.now c.loop-count.invariant.bytes new (reading_of c.loop-count.reading) _ _ _ c.loop-count.invariant.takes c.in_ok-count.ensures.bytes c.loop-count.invariant.leads
+    (omega (arith, some, c.requires.piece, c.in_ok-count.ensures.within, c.read.auto.buf, c.wanted-most.ensures.fits, length-take c.wanted-most.result c.loop-count.block, c.loop-count.auto.block))
+    (omega (arith, some, c.in_ok-count.ensures.within, c.read.auto.buf, c.wanted-most.ensures.few, length-take c.wanted-most.result c.loop-count.block))).0
+
+pub returns-in-Err-clause-needed : goal.returns-in-Err-clause-needed
+returns-in-Err-clause-needed g c =
+    let new = take c.in_ok-count.count c.read.new.buf in
+    let some = length-take c.in_ok-count.count c.read.new.buf in
+    (taken_after c.args.instance.now c.loop-count.invariant.bytes new (reading_of c.loop-count.reading) _ _ _ c.loop-count.invariant.takes c.in_ok-count.ensures.bytes c.loop-count.invariant.leads
+    (omega (arith, some, c.requires.piece, c.in_ok-count.ensures.within, c.read.auto.buf, c.wanted-most.ensures.fits, length-take c.wanted-most.result c.loop-count.block, c.loop-count.auto.block))
+    (omega (arith, some, c.in_ok-count.ensures.within, c.read.auto.buf, c.wanted-most.ensures.few, length-take c.wanted-most.result c.loop-count.block))).1

@@ -1,4 +1,4 @@
-use Rattle.std.proofs.Common.{◌≡◌, length, Option, Some, refl, sym, ◌∙◌, arith, inl}
+use Rattle.std.proofs.Common.{refl, sym, ◌∙◌, arith, inl}
 use Rattle.cutpool.proofs.PoolLemmas.{found_is, missing_is}
 use Rattle.cutpool.proofs.pool.CutPool.put.Goals as goal
 
