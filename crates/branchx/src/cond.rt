@@ -9,6 +9,8 @@ use std::alloc::{AllocError, Global};
 /// What a tour must meet.
 #[derive(Debug, PartialEq, Eq, Drop)]
 pub enum Cond {
+    /// The two cities, the lower one first, are joined by a fixed pair of the instance.
+    Fixed(u32, u32),
     /// The two cities, the lower one first, are not joined.
     Absent(u32, u32),
     /// The two cities, the lower one first, are joined.
@@ -20,18 +22,30 @@ pub enum Cond {
 }
 
 impl Cond {
-    ghost use Rattle.branchx.specs.Cond.{condition_of, pair_of, decides};
+    ghost use Rattle.branchx.specs.Cond.{condition_of, is_fixed, pair_of, decides};
 
     /// An equal condition.
     pub fn copy(&self, alloc: Global) -> Result<Cond, AllocError>
         ensures { IfOk result (λ c. c ≡ self.now) }
     {
         Ok(match self {
+            Cond::Fixed(u, v) => Cond::Fixed(*u, *v),
             Cond::Absent(u, v) => Cond::Absent(*u, *v),
             Cond::Present(u, v) => Cond::Present(*u, *v),
             Cond::Two(set) => Cond::Two(set.copy(alloc)?),
             Cond::Four(set) => Cond::Four(set.copy(alloc)?),
         })
+    }
+
+    /// Whether it is a fixed pair.
+    #[inline]
+    pub fn is_fixed(&self) -> bool
+        ensures { result ≡ is_fixed (condition_of self.now) }
+    {
+        match self {
+            Cond::Fixed(_, _) => true,
+            Cond::Absent(_, _) | Cond::Present(_, _) | Cond::Two(_) | Cond::Four(_) => false,
+        }
     }
 
     /// The pair that it decides, if it is on a pair.
@@ -40,7 +54,7 @@ impl Cond {
         ensures { result ≡ pair_of (condition_of self.now) }
     {
         match self {
-            Cond::Absent(u, v) | Cond::Present(u, v) => Some((*u, *v)),
+            Cond::Fixed(u, v) | Cond::Absent(u, v) | Cond::Present(u, v) => Some((*u, *v)),
             Cond::Two(_) | Cond::Four(_) => None,
         }
     }
@@ -61,7 +75,7 @@ impl Cond {
         ensures { IsTrue result ↔ IsApartFrom n set.now.cities (condition_of self.now) }
     {
         match self {
-            Cond::Absent(_, _) | Cond::Present(_, _) => true,
+            Cond::Fixed(_, _) | Cond::Absent(_, _) | Cond::Present(_, _) => true,
             Cond::Two(other) | Cond::Four(other) => are_apart(n, set, other),
         }
     }

@@ -95,3 +95,21 @@ fn no_set_is_new_twice(rt: HostRuntime) -> Result<(), Fail> {
     assert_eq!(rt; split.pair(), None);
     Ok(())
 }
+
+#[test]
+fn fixed_pairs_stay_on_the_path(rt: HostRuntime) -> Result<(), Fail> {
+    let alloc = rt.alloc();
+    let mut path = Path::root(alloc, 5, &[(0, 3), (1, 2)])?;
+    assert!(rt; path.conditions() == [Cond::Fixed(0, 3), Cond::Fixed(1, 2)].as_slice());
+    assert!(rt; decided(&path, 3, 0));
+    assert!(rt; !decided(&path, 0, 1));
+    path.push(Cond::Absent(0, 1))?;
+    assert!(rt; !decided(&path, 0, 2));
+    path.push(Cond::Present(0, 2))?;
+    assert_eq!(rt; path.pop(), Some(Cond::Present(0, 2)));
+    assert_eq!(rt; path.pop(), Some(Cond::Absent(0, 1)));
+    assert_eq!(rt; path.pop(), None);
+    assert_eq!(rt; path.conditions().len(), 2);
+    assert_eq!(rt; Path::root(alloc, 5, &[])?.pop(), None);
+    Ok(())
+}

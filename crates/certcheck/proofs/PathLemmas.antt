@@ -1,6 +1,7 @@
 -- What is still to come, as a path grows and shrinks.
 use Rattle.std.proofs.Common.{◌≡◌, ℕ, List, [], ◌∷◌, ◌++◌, Some, None, refl, sym, ap, subst, ◌∙◌, append_assoc}
-use Rattle.tspdef.specs.Paths.{Condition, absent, present, two, four, MayFollow, ContinuesPath, IsPath}
+use Rattle.tspdef.specs.Paths.{Condition, fixed, absent, present, two, four, MayFollow, ContinuesPath, IsPath, branches, fixed_conditions}
+use Rattle.tspdef.proofs.RootLemmas.{no_branches}
 use Rattle.certcheck.specs.Paths.{second, sibling, later_below, later}
 
 -- one condition more
@@ -23,6 +24,7 @@ later-push path c = later_below-push [] path c
 
 -- the second child may come where the first one did
 pub second_follows : (n : ℕ) (path : List Condition) (c d : Condition) → MayFollow n path c → second c ≡ Some d → MayFollow n path d
+second_follows n path (fixed u v) d m e = cc
 second_follows n path (absent u v) d m e = let same : present u v ≡ d = cc in subst (MayFollow n path) same m
 second_follows n path (present u v) d m e = cc
 second_follows n path (two s) d m e = let same : four s ≡ d = cc in subst (MayFollow n path) same m
@@ -30,6 +32,7 @@ second_follows n path (four s) d m e = cc
 
 -- no child follows a second one
 second-ends : (c d : Condition) → second c ≡ Some d → second d ≡ None
+second-ends (fixed u v) d e = cc
 second-ends (absent u v) d e = let same : present u v ≡ d = cc in ap second (sym same)
 second-ends (present u v) d e = cc
 second-ends (two s) d e = let same : four s ≡ d = cc in ap second (sym same)
@@ -55,3 +58,18 @@ last_follows-below n p (d ∷ ds) c h = subst (λ q. MayFollow n q c) (append_as
 
 pub last_follows : (n : ℕ) (path : List Condition) (c : Condition) → IsPath n (path ++ c ∷ []) → MayFollow n path c
 last_follows n path c h = last_follows-below n [] path c h
+
+-- fixed pairs have no second children
+later_below-fixed : (p cs : List Condition) → branches cs ≡ [] → later_below p cs ≡ []
+later_below-fixed p [] e = refl
+later_below-fixed p (fixed u v ∷ cs) e = ap (λ r. r ++ []) (later_below-fixed (p ++ fixed u v ∷ []) cs e)
+later_below-fixed p (absent u v ∷ cs) e = cc
+later_below-fixed p (present u v ∷ cs) e = cc
+later_below-fixed p (two s ∷ cs) e = cc
+later_below-fixed p (four s ∷ cs) e = cc
+
+pub later_fixed : (path : List Condition) → branches path ≡ [] → later path ≡ []
+later_fixed path e = later_below-fixed [] path e
+
+pub later_root : (pairs : List (ℕ × ℕ)) → later (fixed_conditions pairs) ≡ []
+later_root pairs = later_fixed (fixed_conditions pairs) (no_branches pairs)

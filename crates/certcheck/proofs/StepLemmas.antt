@@ -3,13 +3,21 @@ use Rattle.std.proofs.Common.{◌≡◌, ℕ, suc, ◌-◌, true, false, List, [
 use Rattle.std.specs.Prelude.{nat_le}
 use Rattle.std.specs.List.{AllByRecursion}
 use Rattle.std.proofs.lemmas.Bool.{cond-true, cond-false}
-use Rattle.tspdef.specs.Paths.{Condition, absent, present, two, four}
+use Rattle.tspdef.specs.Instances.{Instance}
+use Rattle.tspdef.specs.Paths.{Condition, absent, present, two, four, root}
 use Rattle.certdef.specs.Items.{edge_line, clique_line, city_line}
 use Rattle.certdef.specs.Accepted.{from_zero}
-use Rattle.certdef.specs.Tests.{Tests}
-use Rattle.certdef.specs.Verdicts.{Head, OpenDuals, go, refused, wants_trees, after, duals_on, with_city, on_tree, on_dual}
+use Rattle.certdef.specs.Tests.{Tests, verifier}
+use Rattle.certdef.specs.Verdicts.{Head, OpenDuals, go, refused, wants_trees, after, cuts_on, duals_on, with_city, on_tree, on_dual}
 use Rattle.certcheck.specs.Paths.{later}
-use Rattle.certcheck.proofs.PathLemmas.{later-push}
+use Rattle.certcheck.proofs.PathLemmas.{later-push, later_root}
+
+-- behind the cuts comes a tree on the path of the root
+pub root_goes : (i : Instance) (h : Head) (left : ℕ) (path : List Condition) → left ≡ 0 → path ≡ root i → go (cuts_on (verifier i) h left) ≡ go (wants_trees h (path ∷ later path))
+root_goes i h left path e f =
+    ap (λ k. go (cuts_on (verifier i) h k)) e
+    ∙ (ap (λ ps. go (wants_trees h (root i ∷ ps))) (sym (later_root i.fixed))
+    ∙ ap (λ p. go (wants_trees h (p ∷ later p))) (sym f))
 
 -- a split puts both children first
 pub edge_goes : (j : Tests) (h : Head) (p q : List Condition) (at u v : ℕ) → j.decided p (u - 1) (v - 1) ≡ false → q ≡ p ++ absent (u - 1) (v - 1) ∷ []

@@ -1,9 +1,10 @@
 -- The paths on which trees are still to come, where one node's path is known: a text has the first child's tree before the second's.
 use Rattle.std.specs.Prelude.{List, [], ◌∷◌, ◌++◌, Option, Some, None}
-use Rattle.tspdef.specs.Paths.{Condition, absent, present, two, four}
+use Rattle.tspdef.specs.Paths.{Condition, fixed, absent, present, two, four}
 
 -- the condition of the second child, of a first child's
 abbrev pub second : Condition → Option Condition
+second (fixed u v) = None
 second (absent u v) = Some (present u v)
 second (present u v) = None
 second (two s) = Some (four s)

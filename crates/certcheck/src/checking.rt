@@ -25,7 +25,10 @@ const BLOCK: usize = 1 << 16;
 /// pieces of at most 65,536 bytes, each judged before the next is asked for, and none is asked for behind a refusal: that stands in
 /// the last 65,536 bytes that were taken, and what is behind them stays on the desk. After a yes nothing is left.
 ///
-/// A leaf costs one pass over the pairs of cities; other lines cost O(1) a byte, and a split O(depth).
+/// Fixed pairs stand on each path, from the root on: a tour without one is refused, and so is a split by one.
+///
+/// A leaf costs one pass over the pairs of cities, the tour O(cities + fixed pairs), a split O(depth + fixed pairs) and the dual of
+/// a condition O(fixed pairs); other lines cost O(1) a byte.
 pub fn check<D: Desk>(
     alloc: Global,
     instance: &Instance,

@@ -1,7 +1,6 @@
 //! The lines before the tree.
-ghost use Rattle.std.specs.Prelude.{◌≡◌, ℕ, true};
+ghost use Rattle.std.specs.Prelude.{◌≡◌, true};
 ghost use Rattle.certdef.specs.Items.{fits};
-ghost use Rattle.tspdef.specs.Instances as instances;
 ghost use Rattle.certdef.specs.Tests.{verifier};
 ghost use Rattle.certdef.specs.Verdicts as spec;
 ghost use Rattle.certdef.specs.Verdicts.{wants_title};
@@ -142,7 +141,7 @@ impl Progress {
         let Item::Tour(cities) = item else {
             return Err(Trouble::Refused(1, at));
         };
-        let Some(tour) = canonical_tour(alloc, instance.n(), &cities)? else {
+        let Some(tour) = canonical_tour(alloc, instance, &cities)? else {
             return Err(Trouble::Refused(3, at));
         };
         if !has_length(instance, &tour, self.long) {
@@ -161,38 +160,43 @@ impl Progress {
         item: Item,
     ) -> Result<(), Trouble>
         requires { IsOf instance.now.n self.old }
-        ensures { Goes instance.now.n result self.new (spec.on_count self.old.long at (said item)) }
+        ensures { Goes instance.now.n result self.new (spec.on_count (verifier instance.now) self.old.long at (said item)) }
     {
         let Item::Cuts(many) = item else {
             return Err(Trouble::Refused(1, at));
         };
         self.cuts.clear();
-        self.cuts_on(alloc, many);
-        Ok(())
+        self.cuts_on(alloc, instance, many)
     }
 
-    /// Goes on with the cuts that are left, or with the tree.
-    fn cuts_on(&mut self, alloc: Global, left: u32)
-        ensures stage { stage_of self.new ≡ spec.cuts_on (head self.old) left }
-        ensures stands { (n : ℕ) → IsOf n self.old → Stands n self.new }
+    /// Goes on with the cuts that are left, or with the tree, whose root has the fixed pairs.
+    fn cuts_on(&mut self, alloc: Global, instance: &Instance, left: u32) -> Result<(), Trouble>
+        requires { IsOf instance.now.n self.old }
+        ensures { Goes instance.now.n result self.new (spec.go (spec.cuts_on (verifier instance.now) (head self.old) left)) }
     {
         if left == 0 {
-            self.path = Path::new(alloc, self.path.n());
+            self.path = Path::root(alloc, instance.n(), instance.fixed())?;
             self.stage = Stage::Tree;
         } else {
             self.stage = Stage::Cut(left - 1);
         }
+        Ok(())
     }
 
     /// Adds a cut.
-    fn add(&mut self, alloc: Global, n: u32, left: u32, cut: Cut) -> Result<(), Trouble>
-        requires of { IsOf n self.old }
-        requires cut { IsCut n cut }
-        ensures { Goes n result self.new (spec.go (spec.cuts_on (spec.with_cut (head self.old) (listed cut)) left)) }
+    fn add(
+        &mut self,
+        alloc: Global,
+        instance: &Instance,
+        left: u32,
+        cut: Cut,
+    ) -> Result<(), Trouble>
+        requires of { IsOf instance.now.n self.old }
+        requires cut { IsCut instance.now.n cut }
+        ensures { Goes instance.now.n result self.new (spec.go (spec.cuts_on (verifier instance.now) (spec.with_cut (head self.old) (listed cut)) left)) }
     {
         self.cuts.push(cut)?;
-        self.cuts_on(alloc, left);
-        Ok(())
+        self.cuts_on(alloc, instance, left)
     }
 
     /// Takes a line where a cut is wanted.
@@ -214,7 +218,7 @@ impl Progress {
                 let Some(cut) = subtour(alloc, set)? else {
                     return Err(Trouble::Refused(5, at));
                 };
-                self.add(alloc, instance.n(), left, cut)
+                self.add(alloc, instance, left, cut)
             }
             Item::Comb(teeth) => {
                 self.stage = Stage::Handle(left, at, teeth);
@@ -244,7 +248,7 @@ impl Progress {
         };
         self.handle = Some(city_set(alloc, instance.n(), set)?);
         self.teeth.clear();
-        self.teeth_on(alloc, instance.n(), from, left, teeth)
+        self.teeth_on(alloc, instance, from, left, teeth)
     }
 
     /// Takes a line where a tooth of a comb is wanted.
@@ -267,21 +271,21 @@ impl Progress {
             return Err(Trouble::Refused(1, at));
         };
         self.teeth.push(city_set(alloc, instance.n(), set)?)?;
-        self.teeth_on(alloc, instance.n(), from, left, more)
+        self.teeth_on(alloc, instance, from, left, more)
     }
 
     /// Goes on with the teeth of a comb that are left, or ends the comb.
     fn teeth_on(
         &mut self,
         alloc: Global,
-        n: u32,
+        instance: &Instance,
         from: u64,
         left: u32,
         more: u32,
     ) -> Result<(), Trouble>
-        requires of { IsOf n self.old }
-        requires handle { IsHandle n self.old.handle }
-        ensures { (i : instances.Instance) → i.n ≡ n → Goes n result self.new (spec.teeth_on (verifier i) from (head self.old) left more (handle_of self.old.handle) (teeth_of self.old.teeth.items)) }
+        requires of { IsOf instance.now.n self.old }
+        requires handle { IsHandle instance.now.n self.old.handle }
+        ensures { Goes instance.now.n result self.new (spec.teeth_on (verifier instance.now) from (head self.old) left more (handle_of self.old.handle) (teeth_of self.old.teeth.items)) }
     {
         if more != 0 {
             self.stage = Stage::Tooth(left, from, more - 1);
@@ -293,7 +297,7 @@ impl Progress {
                 let Some(cut) = comb(alloc, handle, teeth)? else {
                     return Err(Trouble::Refused(5, from));
                 };
-                self.add(alloc, n, left, cut)
+                self.add(alloc, instance, left, cut)
             }
             None => unreachable!(),
         }

@@ -127,6 +127,32 @@ fn both_children_of_a_split_are_wanted(rt: HostRuntime) -> Result<(), Fail> {
     Ok(())
 }
 
+/// A diagonal of the square is fixed.
+#[test]
+fn a_fixed_pair_is_on_each_path(rt: HostRuntime) -> Result<(), Fail> {
+    let alloc = rt.alloc();
+    let crossed = square(alloc)?.fix(alloc, &[(0, 2)])?;
+    let head = "TSPCERT 1\nN 4\nLENGTH 48\nTOUR 1 2 4 3\nCUTS 0\n";
+    let duals = "L 4 0 0\nP 1 3145728\nP 2 7340032\nP 3 3145728\nP 4 7340032\n";
+    let rows = [
+        (HEAD, DUALS, Answer::No(3, 4)),
+        (head, duals, Answer::Yes(48)),
+        (head, "E 1 3\n", Answer::No(6, 6)),
+        (head, "E 2 4\nE 1 3\n", Answer::No(6, 7)),
+        (head, "K 2 1 2\nL 0 0 1\nZ 1 1\n", Answer::No(7, 7)),
+        (head, "K 2 1 2\nL 0 0 1\nZ 2 1\n", Answer::No(1, 8)),
+    ];
+    for (head, tree, answer) in &rows {
+        let text = format!(in alloc; "{head}{tree}")?;
+        let mut desk = desk(alloc, &text, 65_536, &[])?;
+        assert_eq!(rt; check(alloc, &crossed, &mut desk), Ok(*answer));
+    }
+    let text = format!(in alloc; "{head}E 2 4\n{duals}{duals}")?;
+    let mut desk = desk(alloc, &text, 65_536, &[])?;
+    assert_eq!(rt; check(alloc, &crossed, &mut desk), Ok(Answer::Yes(48)));
+    Ok(())
+}
+
 #[test]
 fn a_hundred_thousand_splits_take_no_stack(rt: HostRuntime) -> Result<(), Fail> {
     let alloc = rt.alloc();

@@ -3,7 +3,7 @@ use Rattle.std.specs.Prelude.{◌≡◌, ℕ, zero, suc, ◌+◌, ◌-◌, ◌^�
 use Rattle.std.specs.List.{AllByRecursion}
 use Rattle.tspdef.specs.Instances.{Instance}
 use Rattle.tspdef.specs.Cuts.{Cut, subtour, comb, IsCut}
-use Rattle.tspdef.specs.Paths.{Condition, absent, present, two, four, condition_at}
+use Rattle.tspdef.specs.Paths.{Condition, fixed, absent, present, two, four, condition_at}
 use Rattle.tspdef.specs.Closings.{Closing}
 use Rattle.tspdef.specs.Trees as trees
 use Rattle.tspdef.specs.Trees.{Tree, IsAccepted}
@@ -59,6 +59,7 @@ firsts ps = map (λ p. p.0) ps
 -- the condition is on a set
 abbrev pub is_clique : Option Condition → Bool
 is_clique None = false
+is_clique (Some (fixed u v)) = false
 is_clique (Some (absent u v)) = false
 is_clique (Some (present u v)) = false
 is_clique (Some (two s)) = true
@@ -80,7 +81,7 @@ LeavesRise n k (closed_leaf d) = RisesIn n k d
 LeavesRise n k (edge_split u v a b) = LeavesRise n k a × LeavesRise n k b
 LeavesRise n k (clique_split s a b) = LeavesRise n k a × LeavesRise n k b
 
--- each depth names a condition on a set of its leaf's path
+-- each depth names a condition on a set of its leaf's path; fixed pairs, with which a path may begin, have no depth
 abbrev pub DepthsName : List Condition → Written → Type 0
 DepthsName path open_leaf = Unit {0}
 DepthsName path (closed_leaf d) = name_cliques path (firsts d.conds) ≡ true

@@ -3,10 +3,10 @@
 use Rattle.std.specs.Prelude.{ℕ, ◌-◌, ◌%◌, Bool, true, false, not, ◌&&◌, ◌==◌, nat_lt, nat_le, List, [], ◌∷◌, length}
 use Rattle.std.specs.Int.Signed.{lt_z}
 use Rattle.tspdef.specs.Sets.{has, meet, meets_any, leaves}
-use Rattle.tspdef.specs.Tours.{last_city}
+use Rattle.tspdef.specs.Tours.{steps, has_step, last_city}
 use Rattle.tspdef.specs.Instances.{Instance, length_in}
 use Rattle.tspdef.specs.Cuts.{Cut, subtour, comb}
-use Rattle.tspdef.specs.Paths.{Condition, condition_at, is_decided}
+use Rattle.tspdef.specs.Paths.{Condition, condition_at, is_decided, root}
 use Rattle.tspdef.specs.Bounds.{bound, needed}
 use Rattle.certdef.specs.Items.{rises, each_below}
 use Rattle.certdef.specs.Proofs.{Listed, Duals}
@@ -23,6 +23,15 @@ are_distinct (c ∷ cs) = not (has cs c) && are_distinct cs
 -- each of the cities 0 to n - 1 once
 abbrev pub is_tour : ℕ → List ℕ → Bool
 is_tour n cs = (length cs == n) && (each_below n cs && are_distinct cs)
+
+-- each of the pairs is one of the steps
+abbrev pub are_steps : List (ℕ × ℕ) → List (ℕ × ℕ) → Bool
+are_steps es [] = true
+are_steps es (p ∷ ps) = has_step es p.0 p.1 && are_steps es ps
+
+-- a tour of the instance: of its cities, and with each fixed pair as a step
+abbrev pub is_tour_of : Instance → List ℕ → Bool
+is_tour_of i cs = is_tour i.n cs && are_steps (steps cs) i.fixed
 
 -- city 0 comes first, and the second city is less than the last
 abbrev pub is_canonical : List ℕ → Bool
@@ -53,6 +62,8 @@ pub record Tests : Type 0 where
   pub n : ℕ
   -- the number of cities that a text may have
   pub size : ℕ → Bool
+  -- the path with which the tree begins
+  pub root : List Condition
   pub tour : List ℕ → Bool
   pub has_length : List ℕ → ℕ → Bool
   pub cut : Listed → Bool
@@ -67,9 +78,9 @@ pub record Tests : Type 0 where
   -- a leaf may be open
   pub opens : Bool
 
--- a canonical tour of cities from 1
-abbrev pub is_tour_from_one : ℕ → List ℕ → Bool
-is_tour_from_one n cs = each_positive cs && (is_tour n (from_zero cs) && is_canonical (from_zero cs))
+-- a canonical tour of the instance, of cities from 1
+abbrev pub is_tour_from_one : Instance → List ℕ → Bool
+is_tour_from_one i cs = each_positive cs && (is_tour_of i (from_zero cs) && is_canonical (from_zero cs))
 
 -- the bound of the duals exceeds what the length needs
 abbrev pub closes_leaf : Instance → ℕ → List Listed → List Condition → Duals → Bool
@@ -80,7 +91,8 @@ abbrev pub verifier : Instance → Tests
 verifier i = record {
   n = i.n;
   size = λ m. m == i.n;
-  tour = is_tour_from_one i.n;
+  root = root i;
+  tour = is_tour_from_one i;
   has_length = λ cs l. length_in i (from_zero cs) == l;
   cut = λ c. is_cut i.n (cut_of i.n c);
   decided = is_decided;

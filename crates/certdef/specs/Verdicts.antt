@@ -45,17 +45,17 @@ pub data Outcome : Type 0 where
   go : (stage : Stage) → Outcome
   refused : (refusal at : ℕ) → Outcome
 
--- after the cuts comes the tree, whose root has the empty path
-abbrev pub cuts_on : Head → ℕ → Stage
-cuts_on h zero = wants_trees h ([] ∷ [])
-cuts_on h (suc m) = wants_cut h m
+-- after the cuts comes the tree
+abbrev pub cuts_on : Tests → Head → ℕ → Stage
+cuts_on j h zero = wants_trees h (j.root ∷ [])
+cuts_on j h (suc m) = wants_cut h m
 
 abbrev pub with_cut : Head → Listed → Head
 with_cut h c = record { long = h.long; cuts = h.cuts ++ c ∷ [] }
 
 -- a cut is whole; its first line is `at`
 abbrev pub cut_end : Tests → ℕ → Head → ℕ → Listed → Outcome
-cut_end j at h m c = if j.cut c then go (cuts_on (with_cut h c) m) else refused 5 at
+cut_end j at h m c = if j.cut c then go (cuts_on j (with_cut h c) m) else refused 5 at
 
 abbrev pub teeth_on : Tests → ℕ → Head → ℕ → ℕ → List ℕ → List (List ℕ) → Outcome
 teeth_on j at h m zero s ts = cut_end j at h m (comb_cut s ts)
@@ -101,9 +101,9 @@ on_tour j l at (tour_line cs) =
     if j.tour cs then (if j.has_length cs l then go (wants_count l) else refused 4 at) else refused 3 at
 on_tour j l at _ = refused 1 at
 
-abbrev pub on_count : ℕ → ℕ → Item → Outcome
-on_count l at (cuts_line k) = go (cuts_on (record { long = l; cuts = [] }) k)
-on_count l at _ = refused 1 at
+abbrev pub on_count : Tests → ℕ → ℕ → Item → Outcome
+on_count j l at (cuts_line k) = go (cuts_on j (record { long = l; cuts = [] }) k)
+on_count j l at _ = refused 1 at
 
 abbrev pub on_cut : Tests → Head → ℕ → ℕ → Item → Outcome
 on_cut j h m at (subtour_line s) = cut_end j at h m (subtour_cut s)
@@ -148,7 +148,7 @@ step j at wants_title x = on_title at x
 step j at wants_size x = on_size j at x
 step j at wants_length x = on_length at x
 step j at (wants_tour l) x = on_tour j l at x
-step j at (wants_count l) x = on_count l at x
+step j at (wants_count l) x = on_count j l at x
 step j at (wants_cut h m) x = on_cut j h m at x
 step j at (wants_handle h m from t) x = on_handle j h m from t at x
 step j at (wants_tooth h m from t s ts) x = on_tooth j h m from t s ts at x

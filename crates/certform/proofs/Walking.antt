@@ -59,21 +59,21 @@ comes_first nodes open_node t Behind ts e h = (e, h)
 comes_first nodes (closed_node c) t Behind ts e h = (e, h)
 comes_first nodes (split_node b child) t Behind ts e h = (tree_at nodes child, tree_at nodes (child + 1), e, h)
 
-pub goes_on : (n : ℕ) (nodes : List Node) (order : List ℕ) (k : ℕ) (ts : List Tree) (t : Tree) → IsTable n nodes → k < length nodes
+pub goes_on : (n : ℕ) (fixed : List (ℕ × ℕ)) (nodes : List Node) (order : List ℕ) (k : ℕ) (ts : List Tree) (t : Tree) → IsTable n fixed nodes → k < length nodes
     → GoesOn nodes order (tree_at nodes k ∷ ts) t → GoesOn nodes (order ++ k ∷ []) (then_wait nodes (state_at nodes k) ts) t
-goes_on n nodes order k ts t table m h rest p =
+goes_on n fixed nodes order k ts t table m h rest p =
     subst (λ (xs : List ℕ). IsPreorder nodes xs (t ∷ [])) (sym (append_assoc order (k ∷ []) rest))
-    (h (k ∷ rest) (m, comes_first nodes (state_at nodes k) (tree_at nodes k) (IsPreorder nodes rest) ts (tree_step n nodes k table m) p))
+    (h (k ∷ rest) (m, comes_first nodes (state_at nodes k) (tree_at nodes k) (IsPreorder nodes rest) ts (tree_step n fixed nodes k table m) p))
 
 then_size : (nodes : List Node) (s : State) (ts : List Tree) → sizes (then_wait nodes s ts) + 1 ≡ size (grown (tree_at nodes) s) + sizes ts
 then_size nodes open_node ts = omega arith
 then_size nodes (closed_node c) ts = omega arith
 then_size nodes (split_node b child) ts = let e = size_split b (tree_at nodes child) (tree_at nodes (child + 1)) in omega arith
 
-pub gets_less : (n : ℕ) (nodes : List Node) (k : ℕ) (ts : List Tree) → IsTable n nodes → k < length nodes
+pub gets_less : (n : ℕ) (fixed : List (ℕ × ℕ)) (nodes : List Node) (k : ℕ) (ts : List Tree) → IsTable n fixed nodes → k < length nodes
     → sizes (then_wait nodes (state_at nodes k) ts) + 1 ≡ sizes (tree_at nodes k ∷ ts)
-gets_less n nodes k ts table m =
-    then_size nodes (state_at nodes k) ts ∙ ap (λ t. size t + sizes ts) (sym (tree_step n nodes k table m))
+gets_less n fixed nodes k ts table m =
+    then_size nodes (state_at nodes k) ts ∙ ap (λ t. size t + sizes ts) (sym (tree_step n fixed nodes k table m))
 
 -- a node's children are put in its place on the stack
 waiting-stacked : (nodes : List Node) (s : State) (ks : List ℕ) → waiting nodes (ks ++ stacked s) ≡ then_wait nodes s (waiting nodes ks)
@@ -94,10 +94,10 @@ nodes-front : (nodes : List Node) (xs : List ℕ) (k : ℕ) → AreNodes nodes (
 nodes-front nodes [] k h = (tt, h.0)
 nodes-front nodes (x ∷ xs) k h = let r = nodes-front nodes xs k h.1 in ((h.0, r.0), r.1)
 
-stacked_nodes : (n : ℕ) (nodes : List Node) (k : ℕ) (s : State) → IsStateOf n nodes k s → AreNodes nodes (stacked s)
-stacked_nodes n nodes k open_node ok = tt
-stacked_nodes n nodes k (closed_node c) ok = tt
-stacked_nodes n nodes k (split_node b child) ok = let within = ok.1.within in (within, (omega arith, tt))
+stacked_nodes : (n : ℕ) (fixed : List (ℕ × ℕ)) (nodes : List Node) (k : ℕ) (s : State) → IsStateOf n fixed nodes k s → AreNodes nodes (stacked s)
+stacked_nodes n fixed nodes k open_node ok = tt
+stacked_nodes n fixed nodes k (closed_node c) ok = tt
+stacked_nodes n fixed nodes k (split_node b child) ok = let within = ok.1.within in (within, (omega arith, tt))
 
 -- what a step of the walk keeps, and that less is left
 pub record Steps (nodes : List Node) (old_order old_stack order stack : List ℕ) (t : Tree) : Type 0 where
@@ -108,19 +108,19 @@ pub record Steps (nodes : List Node) (old_order old_stack order stack : List ℕ
 pub top_is_node : (nodes : List Node) (stack rest : List ℕ) (k : ℕ) → AreNodes nodes stack → stack ≡ rest ++ k ∷ [] → k < length nodes
 top_is_node nodes stack rest k h e = (nodes-front nodes rest k (subst (AreNodes nodes) e h)).1
 
-pub walk_steps : (n : ℕ) (nodes : List Node) (old_order old_stack rest order stack : List ℕ) (k : ℕ) (t : Tree) → IsTable n nodes → AreNodes nodes old_stack
+pub walk_steps : (n : ℕ) (fixed : List (ℕ × ℕ)) (nodes : List Node) (old_order old_stack rest order stack : List ℕ) (k : ℕ) (t : Tree) → IsTable n fixed nodes → AreNodes nodes old_stack
     → GoesOn nodes old_order (waiting nodes old_stack) t → old_stack ≡ rest ++ k ∷ [] → order ≡ old_order ++ k ∷ [] → stack ≡ rest ++ stacked (state_at nodes k)
     → Steps nodes old_order old_stack order stack t
-walk_steps n nodes old_order old_stack rest order stack k t table inside goes e f g =
+walk_steps n fixed nodes old_order old_stack rest order stack k t table inside goes e f g =
     let old = nodes-front nodes rest k (subst (AreNodes nodes) e inside) in
     let was : waiting nodes old_stack ≡ tree_at nodes k ∷ waiting nodes rest = ap (waiting nodes) e ∙ waiting-push nodes rest k in
     let now : waiting nodes stack ≡ then_wait nodes (state_at nodes k) (waiting nodes rest) = ap (waiting nodes) g ∙ waiting-stacked nodes (state_at nodes k) rest in
     let before : GoesOn nodes old_order (tree_at nodes k ∷ waiting nodes rest) t = subst (λ ts. GoesOn nodes old_order ts t) was goes in
-    let l = gets_less n nodes k (waiting nodes rest) table old.1 in
+    let l = gets_less n fixed nodes k (waiting nodes rest) table old.1 in
     let x = ap sizes was in let y = ap sizes now in
     record {
-      inside = subst (AreNodes nodes) (sym g) (nodes-join nodes rest (stacked (state_at nodes k)) old.0 (stacked_nodes n nodes k (state_at nodes k) (table.states k old.1)));
-      goes = subst (λ ts. GoesOn nodes order ts t) (sym now) (subst (λ o. GoesOn nodes o (then_wait nodes (state_at nodes k) (waiting nodes rest)) t) (sym f) (goes_on n nodes old_order k (waiting nodes rest) t table old.1 before));
+      inside = subst (AreNodes nodes) (sym g) (nodes-join nodes rest (stacked (state_at nodes k)) old.0 (stacked_nodes n fixed nodes k (state_at nodes k) (table.states k old.1)));
+      goes = subst (λ ts. GoesOn nodes order ts t) (sym now) (subst (λ o. GoesOn nodes o (then_wait nodes (state_at nodes k) (waiting nodes rest)) t) (sym f) (goes_on n fixed nodes old_order k (waiting nodes rest) t table old.1 before));
       less = omega arith;
     }
 

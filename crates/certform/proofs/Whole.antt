@@ -1,16 +1,19 @@
 -- What is written for a tour and a sound tree is faithful, and accepted where no leaf is open.
 use Rattle.std.proofs.Common.{◌≡◌, ℕ, ◌+◌, ◌*◌, ◌^◌, ◌<◌, ◌≤◌, List, [], ◌∷◌, length, map, refl, sym, ◌∙◌, ap, subst, arith, length-append}
 use Rattle.std.specs.List.{AllByRecursion, flat_map}
-use Rattle.std.proofs.lemmas.List.{length-map}
+use Rattle.std.proofs.lemmas.List.{append-nil, length-map}
 use Rattle.tspdef.specs.Cuts.{Cut, IsCut}
 use Rattle.tspdef.specs.Tours.{IsCanonical, travelled, walk}
 use Rattle.tspdef.specs.Instances.{Instance, IsInstance, IsTourOf, length_in, dist}
+use Rattle.tspdef.specs.Paths.{Condition, branches, root}
 use Rattle.tspdef.specs.Bounds.{needed}
 use Rattle.tspdef.specs.Trees.{Tree, IsSoundFor, open_leaves, settled}
 use Rattle.certdef.specs.Proofs.{Proof, listed_items, tree_items, items, text}
-use Rattle.certdef.specs.Accepted.{cuts_of, tree_of, tree_in, HasForm, most_bytes, LeavesRise}
+use Rattle.certdef.specs.Accepted.{cuts_of, tree_of, tree_in, HasForm, most_bytes, LeavesRise, DepthsName}
 use Rattle.certdef.specs.Restarts.{IsSoundProof}
 use Rattle.certdef.proofs.Restarts.{closed_is_accepted}
+use Rattle.certdef.proofs.Depths.{depths_without}
+use Rattle.tspdef.proofs.RootLemmas.{no_branches}
 use Rattle.certform.specs.Written.{from_one, listed, used_cuts, written_tree, written}
 use Rattle.certform.specs.Faithful.{IsFitting, AreAlike, IsFaithful, WrittenIsFaithful, FaithfulIsAccepted}
 use Rattle.certform.proofs.Numbering.{tree_added, tree_cuts_are_cuts, few_cuts, HasAllOf}
@@ -45,21 +48,25 @@ tour_short i (a ∷ bs) k few =
 -- ---- the items
 
 module _ (i : Instance) (tour : List ℕ) (l : ℕ) (t : Tree) (inst : IsInstance i) (is_tour : IsTourOf i tour) (canonical : IsCanonical tour)
-    (long : l ≡ length_in i tour) (sound : IsSoundFor i l t) (fitting : IsFitting i.n [] t) (few : open_leaves t + settled t ≤ 1048576) where
+    (long : l ≡ length_in i tour) (sound : IsSoundFor i l t) (fitting : IsFitting i.n (root i) t) (few : open_leaves t + settled t ≤ 1048576) where
   abbrev cs : List Cut
   cs = used_cuts t
 
   abbrev p : Proof
   p = written i.n tour l t
 
+  -- fixed pairs have no depth
+  none_deep : length (branches (root i)) ≡ 0
+  none_deep = ap length (no_branches i.fixed)
+
   are_cuts : AllByRecursion (IsCut i.n) cs
-  are_cuts = tree_cuts_are_cuts i.n [] t [] fitting tt
+  are_cuts = tree_cuts_are_cuts i.n (root i) t [] fitting tt
 
   has_all : HasAllOf cs t
   has_all = tree_added t []
 
   cuts_few : length cs ≤ 2147487744
-  cuts_few = let f = few_cuts i.n [] t [] fitting in omega arith
+  cuts_few = let f = few_cuts i.n (root i) t [] fitting in omega arith
 
   all_fit : AllFit i.n (items p)
   all_fit =
@@ -67,18 +74,19 @@ module _ (i : Instance) (tour : List ℕ) (l : ℕ) (t : Tree) (inst : IsInstanc
       let c = cuts_few in
       let e = length-map cs listed in
       let m = length-map tour (λ c. c + 1) in
-      let w = is_tour.all in (
+      let w = is_tour.is_tour.all in
+      let none = none_deep in (
         fits_title i.n,
         (
           fits_size i.n inst.few,
           (
             fits_length i.n l (subst (λ k. k ≤ 2 ^ 42) (sym long) (tour_short i tour inst (omega arith))),
             (
-              fits_tour i.n (from_one tour) inst.few (m ∙ w) (small_tour i.n tour inst.few is_tour.below),
+              fits_tour i.n (from_one tour) inst.few (m ∙ w) (small_tour i.n tour inst.few is_tour.is_tour.below),
               (
                 fits_count i.n (length (map listed cs)) (omega arith),
                 all_join i.n (flat_map listed_items (map listed cs)) (tree_items (written_tree cs t)) (cuts_fit i.n cs inst.few are_cuts)
-                    (tree_fits i.n [] cs t inst.few (omega arith) (omega arith) has_all fitting),
+                    (tree_fits i.n (root i) cs t inst.few (omega arith) (omega arith) has_all fitting),
               ),
             ),
           ),
@@ -89,9 +97,9 @@ module _ (i : Instance) (tour : List ℕ) (l : ℕ) (t : Tree) (inst : IsInstanc
   has_form = record {
     readable = record {
       lines = all_fit;
-      rise = subst (λ k. LeavesRise i.n k (written_tree cs t)) (sym (length-map cs listed)) (tree_rises i.n [] cs t (omega arith) has_all fitting);
+      rise = subst (λ k. LeavesRise i.n k (written_tree cs t)) (sym (length-map cs listed)) (let none = none_deep in tree_rises i.n (root i) cs t (omega arith) has_all fitting);
     };
-    depths = tree_names i.n [] cs t fitting;
+    depths = depths_without i.fixed [] (written_tree cs t) (subst (λ (r : List Condition). DepthsName r (written_tree cs t)) (sym (append-nil (root i))) (tree_names i.n (root i) cs t fitting));
   }
 
   cuts_back : cuts_of i.n (map listed cs) ≡ cs
@@ -112,7 +120,7 @@ module _ (i : Instance) (tour : List ℕ) (l : ℕ) (t : Tree) (inst : IsInstanc
         is_tour = subst (IsTourOf i) (sym back) is_tour;
         canonical = subst IsCanonical (sym back) canonical;
         long = long ∙ ap (length_in i) (sym back);
-        sound = subst (IsSoundFor i l) (sym tree_back) (sound_again i (needed l) [] cs t has_all sound);
+        sound = subst (IsSoundFor i l) (sym tree_back) (sound_again i (needed l) (root i) cs t has_all sound);
       }
 
   short : length (text p) ≤ most_bytes
@@ -120,7 +128,7 @@ module _ (i : Instance) (tour : List ℕ) (l : ℕ) (t : Tree) (inst : IsInstanc
       let size = inst.few in
       let c = cuts_few in
       let x = cuts_length i.n cs inst.few are_cuts in
-      let y = tree_length i.n [] cs t inst.few fitting in
+      let y = tree_length i.n (root i) cs t inst.few fitting in
       let z = length-append (flat_map listed_items (map listed cs)) (tree_items (written_tree cs t)) in
       let w = text_length i.n (items p) all_fit in omega arith
 
@@ -128,7 +136,7 @@ module _ (i : Instance) (tour : List ℕ) (l : ℕ) (t : Tree) (inst : IsInstanc
   faithful = record {
     form = has_form;
     sound = is_sound;
-    alike = subst (AreAlike t) (sym tree_back) (alike_again i (needed l) [] cs t has_all sound);
+    alike = subst (AreAlike t) (sym tree_back) (alike_again i (needed l) (root i) cs t has_all sound);
     opened = ap open_leaves tree_back ∙ open_again i.n cs t;
     settled = ap settled tree_back ∙ settled_again i.n cs t;
     size = short;

@@ -1,12 +1,13 @@
 -- A value that is written is of the grammar.
-use Rattle.std.proofs.Common.{◌≡◌, ℕ, zero, suc, ◌+◌, ◌-◌, ◌*◌, ◌^◌, ◌<◌, ◌≤◌, true, List, [], ◌∷◌, ◌++◌, length, map, refl, sym, subst, arith, length-append}
+use Rattle.std.proofs.Common.{◌≡◌, ℕ, zero, suc, ◌+◌, ◌-◌, ◌*◌, ◌^◌, ◌<◌, ◌≤◌, true, List, [], ◌∷◌, ◌++◌, length, map, refl, sym, ap, ◌∙◌, subst, arith, length-append}
 use Rattle.std.specs.Prelude.{nat_abs, nat_le, ◌==◌, ℤ, Option, Some, None, slice_get, codes}
 use Rattle.std.specs.List.{AllByRecursion, flat_map}
 use Rattle.std.proofs.lemmas.Bool.{and_from, and_parts, leb-true, cond_both, eqb-false, false≢true}
 use Rattle.std.proofs.lemmas.List.{length-map}
 use Rattle.tspdef.specs.Sets.{meet}
 use Rattle.tspdef.specs.Cuts.{Cut, subtour, comb, IsTooth, IsCut}
-use Rattle.tspdef.specs.Paths.{Condition, absent, present, two, four, condition_at, IsClique}
+use Rattle.tspdef.specs.Paths.{Condition, fixed, absent, present, two, four, branches, condition_at, IsClique}
+use Rattle.tspdef.proofs.RootLemmas.{branches_join}
 use Rattle.tspdef.specs.Closings.{Closing, IsDualSize, DepthsRise, NamesCliques, Fits}
 use Rattle.tspdef.specs.Trees as trees
 use Rattle.tspdef.specs.Trees.{Tree, open_leaves, settled}
@@ -114,18 +115,18 @@ clique_within [] k h = absurd h
 clique_within (c ∷ cs) zero h = omega arith
 clique_within (c ∷ cs) (suc k) h = let ih = clique_within cs k h in omega arith
 
-depth_within : (path : List Condition) (d : ℕ) → IsClique (condition_at path d) → d ≤ length path
+depth_within : (path : List Condition) (d : ℕ) → IsClique (condition_at path d) → d ≤ length (branches path)
 depth_within path zero h = absurd h
-depth_within path (suc k) h = let l = clique_within path k h in omega arith
+depth_within path (suc k) h = let l = clique_within (branches path) k h in omega arith
 
-depths_fit : (n d : ℕ) (path : List Condition) (qs : List (ℕ × ℕ)) → length path < 2 ^ 32 → DepthsRise d qs → NamesCliques path qs → AllByRecursion (λ q. IsDualSize q.1) qs
+depths_fit : (n d : ℕ) (path : List Condition) (qs : List (ℕ × ℕ)) → length (branches path) < 2 ^ 32 → DepthsRise d qs → NamesCliques path qs → AllByRecursion (λ q. IsDualSize q.1) qs
     → AllFit n (map condition_item qs)
 depths_fit n d path [] few r h s = tt
 depths_fit n d path (q ∷ qs) few r h s =
     let up = r.0 in let w = depth_within path q.0 h.0 in
     (fits_condition n q.0 q.1 (omega arith) (omega arith) s.0.0 s.0.1, depths_fit n q.0 path qs few r.1 h.1 s.1)
 
-depths_rise : (d : ℕ) (path : List Condition) (qs : List (ℕ × ℕ)) → length path < 2 ^ 32 → DepthsRise d qs → NamesCliques path qs → rises (d + 1) (2 ^ 32) (firsts qs) ≡ true
+depths_rise : (d : ℕ) (path : List Condition) (qs : List (ℕ × ℕ)) → length (branches path) < 2 ^ 32 → DepthsRise d qs → NamesCliques path qs → rises (d + 1) (2 ^ 32) (firsts qs) ≡ true
 depths_rise d path [] few r h = refl
 depths_rise d path (q ∷ qs) few r h =
     let up = r.0 in let w = depth_within path q.0 h.0 in
@@ -133,6 +134,7 @@ depths_rise d path (q ∷ qs) few r h =
 
 named_clique : (c : Option Condition) → IsClique c → is_clique c ≡ true
 named_clique None h = absurd h
+named_clique (Some (fixed u v)) h = absurd h
 named_clique (Some (absent u v)) h = absurd h
 named_clique (Some (present u v)) h = absurd h
 named_clique (Some (two s)) h = refl
@@ -144,7 +146,7 @@ cliques_named path (q ∷ qs) h = and_from (is_clique (condition_at path q.0)) (
 
 -- ---- a leaf
 
-leaf_fits : (n : ℕ) (path : List Condition) (cs : List Cut) (c : Closing) → n ≤ 2000 → length cs < 2 ^ 32 → length path < 2 ^ 32 → AreListed cs c.cuts → Fits n path c
+leaf_fits : (n : ℕ) (path : List Condition) (cs : List Cut) (c : Closing) → n ≤ 2000 → length cs < 2 ^ 32 → length (branches path) < 2 ^ 32 → AreListed cs c.cuts → Fits n path c
     → AllFit n (tree_items (written_tree cs (trees.closed_leaf c)))
 leaf_fits n path cs c few some deep h f =
     let l = length-written_cuts cs c.cuts in
@@ -159,7 +161,7 @@ leaf_fits n path cs c few some deep h f =
           (depths_fit n 0 path c.conds deep f.depths.rising f.depths.cliques f.sizes.conds)),
     )
 
-leaf_rises : (n : ℕ) (path : List Condition) (cs : List Cut) (c : Closing) → length path < 2 ^ 32 → AreListed cs c.cuts → Fits n path c → RisesIn n (length cs) (written_leaf cs c)
+leaf_rises : (n : ℕ) (path : List Condition) (cs : List Cut) (c : Closing) → length (branches path) < 2 ^ 32 → AreListed cs c.cuts → Fits n path c → RisesIn n (length cs) (written_leaf cs c)
 leaf_rises n path cs c deep h f =
     let city = f.counts.city in
     record {
@@ -181,37 +183,37 @@ leaf_length n path cs c few f =
 
 -- ---- a tree
 
--- the path of a node of a tree of so many nodes is not long
-longer : (path : List Condition) (c : Condition) → length (path ++ c ∷ []) ≡ length path + 1
-longer path c = length-append path (c ∷ [])
+-- the path of a node of a tree of so many nodes is not long, its fixed pairs apart
+longer : (path : List Condition) (c : Condition) → branches (c ∷ []) ≡ c ∷ [] → length (branches (path ++ c ∷ [])) ≡ length (branches path) + 1
+longer path c e = ap length (branches_join path (c ∷ []) ∙ ap (λ ds. branches path ++ ds) e) ∙ length-append (branches path) (c ∷ [])
 
-pub tree_fits : (n : ℕ) (path : List Condition) (cs : List Cut) (t : Tree) → n ≤ 2000 → length cs < 2 ^ 32 → length path + (open_leaves t + settled t) ≤ 1048576 → HasAllOf cs t → IsFitting n path t
+pub tree_fits : (n : ℕ) (path : List Condition) (cs : List Cut) (t : Tree) → n ≤ 2000 → length cs < 2 ^ 32 → length (branches path) + (open_leaves t + settled t) ≤ 1048576 → HasAllOf cs t → IsFitting n path t
     → AllFit n (tree_items (written_tree cs t))
 tree_fits n path cs trees.open_leaf few some deep h f = (fits_open n, tt)
 tree_fits n path cs (trees.closed_leaf c) few some deep h f = leaf_fits n path cs c few some (omega arith) h f
 tree_fits n path cs (trees.edge_split u v a b) few some deep h f =
-    let x = longer path (absent u v) in let y = longer path (present u v) in (
+    let x = longer path (absent u v) refl in let y = longer path (present u v) refl in (
       fits_edge n u v few f.0.0.0 f.0.0.1,
       all_join n (tree_items (written_tree cs a)) (tree_items (written_tree cs b))
           (tree_fits n (path ++ absent u v ∷ []) cs a few some (omega arith) h.0 f.1.0)
           (tree_fits n (path ++ present u v ∷ []) cs b few some (omega arith) h.1 f.1.1),
     )
 tree_fits n path cs (trees.clique_split s a b) few some deep h f =
-    let x = longer path (two s) in let y = longer path (four s) in let p = f.0 in (
+    let x = longer path (two s) refl in let y = longer path (four s) refl in let p = f.0 in (
       fits_set n (clique_line (from_one s)) (codes "K") s few p.set refl (omega arith) (set_is_set n s p.set p.some),
       all_join n (tree_items (written_tree cs a)) (tree_items (written_tree cs b))
           (tree_fits n (path ++ two s ∷ []) cs a few some (omega arith) h.0 f.1.0)
           (tree_fits n (path ++ four s ∷ []) cs b few some (omega arith) h.1 f.1.1),
     )
 
-pub tree_rises : (n : ℕ) (path : List Condition) (cs : List Cut) (t : Tree) → length path + (open_leaves t + settled t) ≤ 1048576 → HasAllOf cs t → IsFitting n path t → LeavesRise n (length cs) (written_tree cs t)
+pub tree_rises : (n : ℕ) (path : List Condition) (cs : List Cut) (t : Tree) → length (branches path) + (open_leaves t + settled t) ≤ 1048576 → HasAllOf cs t → IsFitting n path t → LeavesRise n (length cs) (written_tree cs t)
 tree_rises n path cs trees.open_leaf deep h f = tt
 tree_rises n path cs (trees.closed_leaf c) deep h f = leaf_rises n path cs c (omega arith) h f
 tree_rises n path cs (trees.edge_split u v a b) deep h f =
-    let x = longer path (absent u v) in let y = longer path (present u v) in
+    let x = longer path (absent u v) refl in let y = longer path (present u v) refl in
     (tree_rises n (path ++ absent u v ∷ []) cs a (omega arith) h.0 f.1.0, tree_rises n (path ++ present u v ∷ []) cs b (omega arith) h.1 f.1.1)
 tree_rises n path cs (trees.clique_split s a b) deep h f =
-    let x = longer path (two s) in let y = longer path (four s) in
+    let x = longer path (two s) refl in let y = longer path (four s) refl in
     (tree_rises n (path ++ two s ∷ []) cs a (omega arith) h.0 f.1.0, tree_rises n (path ++ four s ∷ []) cs b (omega arith) h.1 f.1.1)
 
 pub tree_names : (n : ℕ) (path : List Condition) (cs : List Cut) (t : Tree) → IsFitting n path t → DepthsName path (written_tree cs t)

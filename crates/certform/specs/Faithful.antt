@@ -4,7 +4,7 @@ use Rattle.tspdef.specs.Sets.{IsProper}
 use Rattle.tspdef.specs.Cuts.{Cut}
 use Rattle.tspdef.specs.Tours.{IsCanonical}
 use Rattle.tspdef.specs.Instances.{Instance, IsInstance, IsTourOf, length_in}
-use Rattle.tspdef.specs.Paths.{Condition, absent, present, two, four, is_decided, IsPair}
+use Rattle.tspdef.specs.Paths.{Condition, absent, present, two, four, is_decided, IsPair, fixed_conditions, root}
 use Rattle.tspdef.specs.Closings.{Fits}
 use Rattle.tspdef.specs.Trees.{Tree, open_leaf, closed_leaf, edge_split, clique_split, IsSoundFor, open_leaves, settled}
 use Rattle.certdef.specs.Proofs.{Proof, text}
@@ -45,16 +45,16 @@ pub record IsFaithful (i : Instance) (l : ℕ) (t : Tree) (p : Proof) : Type 0 w
   pub settled : settled (tree_in i.n p) ≡ settled t
   pub size : length (text p) ≤ most_bytes
 
--- What is written for a canonical tour, its length and a sound tree of at most 2^20 nodes is of the grammar, sound and has
--- the same tree, but for the order of the cuts in a leaf; so it is accepted where no leaf is open.
+-- What is written for a canonical tour of an instance, its length and a sound tree of at most 2^20 nodes, which begins with the
+-- instance's fixed pairs, is of the grammar, sound and has the same tree, but for the order of the cuts in a leaf; so it is accepted where no leaf is open.
 abbrev pub WrittenIsFaithful : Type 0
 WrittenIsFaithful = (i : Instance) (tour : List ℕ) (l : ℕ) (t : Tree) → IsInstance i → IsTourOf i tour → IsCanonical tour
-    → l ≡ length_in i tour → IsSoundFor i l t → IsFitting i.n [] t → open_leaves t + settled t ≤ 1048576
+    → l ≡ length_in i tour → IsSoundFor i l t → IsFitting i.n (root i) t → open_leaves t + settled t ≤ 1048576
     → IsFaithful i l t (written i.n tour l t)
 
--- A table's tree is fitting.
+-- A table's tree is fitting, from the path of its fixed pairs on.
 abbrev pub TablesFit : Type 0
-TablesFit = (n : ℕ) (nodes : List Node) → IsTable n nodes → IsFitting n [] (tree_of nodes)
+TablesFit = (n : ℕ) (fixed : List (ℕ × ℕ)) (nodes : List Node) → IsTable n fixed nodes → IsFitting n (fixed_conditions fixed) (tree_of nodes)
 
 -- What is faithful to a tree without an open leaf is the value of an accepted text.
 abbrev pub FaithfulIsAccepted : Type 0

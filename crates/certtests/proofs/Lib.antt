@@ -2,3 +2,4 @@ pub mod Listing
 pub mod TourLemmas
 pub mod DualLemmas
 pub mod PathLemmas
+pub mod StepLemmas

@@ -1,13 +1,13 @@
 -- Tours of cities from 1.
-use Rattle.std.proofs.Common.{◌≡◌, ℕ, suc, ◌-◌, ◌<◌, ◌≤◌, true, false, ◌&&◌, List, [], ◌∷◌, length, get_or, refl, sym, ap, ◌∙◌, subst, arith}
-use Rattle.std.specs.Prelude.{nat_lt, ◌==◌, Option, Some, None}
-use Rattle.std.specs.Option.{is_some, MatchOption}
+use Rattle.std.proofs.Common.{◌≡◌, ℕ, suc, ◌-◌, ◌<◌, ◌≤◌, Bool, true, false, ◌&&◌, List, [], ◌∷◌, length, get_or, refl, sym, ap, ◌∙◌, subst, arith}
+use Rattle.std.specs.Prelude.{nat_lt, ◌==◌}
 use Rattle.std.specs.List.{AllByRecursion}
 use Rattle.std.proofs.lemmas.Bool.{ne_eqb, false_from_ne_true}
-use Rattle.tspdef.specs.Tours.{IsTour, last_city}
+use Rattle.tspdef.specs.Tours.{IsTour, steps, last_city}
+use Rattle.tspdef.specs.Instances.{Instance}
 use Rattle.certdef.specs.Accepted.{from_zero}
-use Rattle.certdef.specs.Tests.{is_canonical, is_tour_from_one}
-use Rattle.verdict.proofs.Decisions.{tour_from_one_yes, yes_tour_from_one, canonical_yes, yes_canonical}
+use Rattle.certdef.specs.Tests.{are_steps, is_canonical, is_tour_from_one}
+use Rattle.verdict.proofs.Decisions.{tour_from_one_yes, yes_tour_from_one, steps_yes, yes_steps, canonical_yes, yes_canonical}
 use Rattle.certtests.specs.Places.{AreFromOne}
 
 -- ---- canonical lists, by their places
@@ -51,23 +51,42 @@ are_within : (n : ℕ) (cs : List ℕ) → AllByRecursion (λ c. 1 ≤ c) cs →
 are_within n [] p h = tt
 are_within n (c ∷ cs) p h = ((p.0, omega arith), are_within n cs p.1 h.1)
 
-pub tour_passes : (n : ℕ) (cs : List ℕ) → AreFromOne n cs → is_canonical (from_zero cs) ≡ true → IsTour n (from_zero cs) → is_tour_from_one n cs ≡ true
-tour_passes n cs r c t = yes_tour_from_one n cs (are_positive n cs r) t (canonical_yes (from_zero cs) c)
+pub tour_passes : (i : Instance) (cs : List ℕ) → AreFromOne i.n cs → is_canonical (from_zero cs) ≡ true → IsTour i.n (from_zero cs) → are_steps (steps (from_zero cs)) i.fixed ≡ true → is_tour_from_one i cs ≡ true
+tour_passes i cs r c t f = yes_tour_from_one i cs (are_positive i.n cs r) (record { is_tour = t; holds_fixed = steps_yes (steps (from_zero cs)) i.fixed f }) (canonical_yes (from_zero cs) c)
 
-pub tour_out_of_range : (n : ℕ) (cs : List ℕ) → (AreFromOne n cs → ⊥) → is_tour_from_one n cs ≡ false
-tour_out_of_range n cs refuted = false_from_ne_true (is_tour_from_one n cs) (λ e.
-    let p = tour_from_one_yes n cs e in
-    refuted (are_within n cs p.from_one p.is_tour.below))
+pub tour_out_of_range : (i : Instance) (cs : List ℕ) → (AreFromOne i.n cs → ⊥) → is_tour_from_one i cs ≡ false
+tour_out_of_range i cs refuted = false_from_ne_true (is_tour_from_one i cs) (λ e.
+    let p = tour_from_one_yes i cs e in
+    refuted (are_within i.n cs p.from_one p.is_tour.is_tour.below))
 
-pub tour_not_canonical : (n : ℕ) (cs : List ℕ) → is_canonical (from_zero cs) ≡ false → is_tour_from_one n cs ≡ false
-tour_not_canonical n cs refuted = false_from_ne_true (is_tour_from_one n cs) (λ e.
-    let p = tour_from_one_yes n cs e in
+pub tour_not_canonical : (i : Instance) (cs : List ℕ) → is_canonical (from_zero cs) ≡ false → is_tour_from_one i cs ≡ false
+tour_not_canonical i cs refuted = false_from_ne_true (is_tour_from_one i cs) (λ e.
+    let p = tour_from_one_yes i cs e in
     let q = yes_canonical (from_zero cs) p.canonical in cc)
 
-pub tour_none : (n : ℕ) (cs : List ℕ) → (IsTour n (from_zero cs) → ⊥) → is_tour_from_one n cs ≡ false
-tour_none n cs refuted = false_from_ne_true (is_tour_from_one n cs) (λ e. refuted (tour_from_one_yes n cs e).is_tour)
+pub tour_none : (i : Instance) (cs : List ℕ) → (IsTour i.n (from_zero cs) → ⊥) → is_tour_from_one i cs ≡ false
+tour_none i cs refuted = false_from_ne_true (is_tour_from_one i cs) (λ e. refuted (tour_from_one_yes i cs e).is_tour.is_tour)
+
+-- a tour that lacks a fixed pair
+pub tour_lacks : (i : Instance) (cs : List ℕ) → are_steps (steps (from_zero cs)) i.fixed ≡ false → is_tour_from_one i cs ≡ false
+tour_lacks i cs refuted = false_from_ne_true (is_tour_from_one i cs) (λ e.
+    let p = tour_from_one_yes i cs e in
+    let q = yes_steps (steps (from_zero cs)) i.fixed p.is_tour.holds_fixed in cc)
 
 -- what making a tour of canonical cities answers
-pub tour_decided : (n : ℕ) (cs xs : List ℕ) (o : Option (List ℕ)) → AreFromOne n cs × (xs ≡ from_zero cs) → is_canonical xs ≡ true → MatchOption o (¬ IsTour n xs) (λ t. IsTour n xs × (t ≡ xs)) → is_some o ≡ is_tour_from_one n cs
-tour_decided n cs xs None r c h = sym (tour_none n cs (λ t. h (subst (IsTour n) (sym r.1) t)))
-tour_decided n cs xs (Some t) r c h = sym (tour_passes n cs r.0 (subst (λ ys. is_canonical ys ≡ true) r.1 c) (subst (IsTour n) r.1 h.0))
+pub no_tour : (i : Instance) (n : ℕ) (cs xs : List ℕ) → n ≡ i.n → xs ≡ from_zero cs → ¬ IsTour n xs → false ≡ is_tour_from_one i cs
+no_tour i n cs xs e f none = sym (tour_none i cs (λ t. none (subst (λ m. IsTour m xs) (sym e) (subst (IsTour i.n) (sym f) t))))
+
+pub fixed_within : (i : Instance) (n : ℕ) (xs ys : List ℕ) (pairs : List (ℕ × ℕ)) → AllByRecursion (λ p. (p.0 < p.1) × (p.1 < i.n)) i.fixed → n ≡ i.n → IsTour n xs → ys ≡ xs → pairs ≡ i.fixed
+    → AllByRecursion (λ p. (p.0 < p.1) × (p.1 < length ys)) pairs
+fixed_within i n xs ys pairs h e t same f =
+    let long : i.n ≡ length ys = sym (ap length same ∙ t.all ∙ e) in
+    subst (λ ps. AllByRecursion (λ (p : ℕ × ℕ). (p.0 < p.1) × (p.1 < length ys)) ps) (sym f) (subst (λ m. AllByRecursion (λ (p : ℕ × ℕ). (p.0 < p.1) × (p.1 < m)) i.fixed) long h)
+
+-- the steps that were tested
+pub steps_tested : (i : Instance) (cs xs ys : List ℕ) (pairs : List (ℕ × ℕ)) (b : Bool) → xs ≡ from_zero cs → ys ≡ xs → pairs ≡ i.fixed → b ≡ are_steps (steps ys) pairs → are_steps (steps (from_zero cs)) i.fixed ≡ b
+steps_tested i cs xs ys pairs b e f g h = sym (h ∙ (ap (λ ps. are_steps (steps ys) ps) g ∙ ap (λ zs. are_steps (steps zs) i.fixed) (f ∙ e)))
+
+pub tour_found : (i : Instance) (n : ℕ) (cs xs : List ℕ) → n ≡ i.n → AreFromOne n cs → xs ≡ from_zero cs → is_canonical xs ≡ true → IsTour n xs → are_steps (steps (from_zero cs)) i.fixed ≡ true → true ≡ is_tour_from_one i cs
+tour_found i n cs xs e r f c t g =
+    sym (tour_passes i cs (subst (λ m. AreFromOne m cs) e r) (subst (λ ys. is_canonical ys ≡ true) f c) (subst (IsTour i.n) f (subst (λ m. IsTour m xs) e t)) g)

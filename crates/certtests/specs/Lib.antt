@@ -1,3 +1,4 @@
 pub mod Listed
 pub mod Duals
 pub mod Places
+pub mod Followers

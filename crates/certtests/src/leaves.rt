@@ -4,10 +4,10 @@ ghost use Rattle.std.specs.Option.{option_map};
 ghost use Rattle.std.specs.Int.Signed.{lt_z};
 ghost use Rattle.std.specs.List.{AllByRecursion};
 ghost use Rattle.tspdef.specs.Cuts.{IsCut};
-ghost use Rattle.tspdef.specs.Paths.{condition_at};
+ghost use Rattle.tspdef.specs.Paths.{branches, condition_at};
 ghost use Rattle.tspdef.specs.Closings.{IsClosing};
 ghost use Rattle.tspdef.specs.Bounds as bounds;
-ghost use Rattle.branchx.specs.Cond.{condition_of};
+ghost use Rattle.branchx.specs.Cond.{condition_of, conditions_of, is_fixed as fixed_pair};
 ghost use Rattle.certdef.specs.Accepted.{is_clique};
 ghost use Rattle.certdef.specs.Tests.{closes_leaf};
 ghost use Rattle.certtests.specs.Listed.{listed};
@@ -20,14 +20,33 @@ use pricer::{Closing, bound, needed};
 use std::alloc::{AllocError, Global};
 use tspinst::Instance;
 
-/// Whether a depth of a path, from 1, is that of a condition on a set.
+/// Whether a depth of a path, from 1 behind the fixed pairs, is that of a condition on a set. O(fixed pairs).
 pub fn names_clique(path: &Path, depth: u32) -> bool
     ensures { result ≡ is_clique (condition_at path.now.conditions depth) }
 {
     match depth.checked_sub(1) {
         None => false,
-        Some(place) => is_on_set(path.conditions().get(place as usize)),
+        Some(place) => is_on_set(behind_fixed(path).get(place as usize)),
     }
+}
+
+/// The conditions behind the fixed pairs, which have a depth.
+fn behind_fixed(path: &Path) -> &[Cond]
+    ensures { conditions_of result.now ≡ branches path.now.conditions }
+{
+    let conditions = path.conditions();
+    for place in 0..conditions.len() {
+        if !is_fixed(&conditions[place]) {
+            return &conditions[place..];
+        }
+    }
+    &[]
+}
+
+fn is_fixed(condition: &Cond) -> bool
+    ensures { result ≡ fixed_pair (condition_of condition.now) }
+{
+    matches!(condition, Cond::Fixed(_, _))
 }
 
 fn is_on_set(condition: Option<&Cond>) -> bool

@@ -9,6 +9,7 @@ mod cuts;
 mod duals;
 mod leaves;
 mod sets;
+mod steps;
 mod tours;
 
 pub use cuts::{comb, subtour};

@@ -88,7 +88,8 @@ fn combs(rt: HostRuntime) -> Result<(), Fail> {
 #[test]
 fn tours(rt: HostRuntime) -> Result<(), Fail> {
     let alloc = rt.alloc();
-    let tour = canonical_tour(alloc, 4, &[1, 3, 2, 4])?.ok_or("no tour")?;
+    let square = square(alloc)?;
+    let tour = canonical_tour(alloc, &square, &[1, 3, 2, 4])?.ok_or("no tour")?;
     assert_eq!(rt; tour.cities(), [0, 2, 1, 3].as_slice());
     let none: [&[u64]; 8] = [
         &[1, 4, 2, 3],
@@ -102,7 +103,7 @@ fn tours(rt: HostRuntime) -> Result<(), Fail> {
     ];
     for cities in none {
         assert!(rt;
-            canonical_tour(alloc, 4, cities)?.is_none(),
+            canonical_tour(alloc, &square, cities)?.is_none(),
             "at {cities:?}"
         );
     }
@@ -110,10 +111,23 @@ fn tours(rt: HostRuntime) -> Result<(), Fail> {
 }
 
 #[test]
+fn tours_that_lack_a_fixed_pair(rt: HostRuntime) -> Result<(), Fail> {
+    let alloc = rt.alloc();
+    let crossed = square(alloc)?.fix(alloc, &[(0, 2)])?;
+    assert!(rt; canonical_tour(alloc, &crossed, &[1, 2, 4, 3])?.is_some());
+    assert!(rt; canonical_tour(alloc, &crossed, &[1, 3, 2, 4])?.is_some());
+    assert!(rt; canonical_tour(alloc, &crossed, &[1, 2, 3, 4])?.is_none());
+    let both = square(alloc)?.fix(alloc, &[(1, 3), (0, 2)])?;
+    assert!(rt; canonical_tour(alloc, &both, &[1, 2, 4, 3])?.is_some());
+    assert!(rt; canonical_tour(alloc, &both, &[1, 2, 3, 4])?.is_none());
+    Ok(())
+}
+
+#[test]
 fn the_length_of_a_tour(rt: HostRuntime) -> Result<(), Fail> {
     let alloc = rt.alloc();
     let square = square(alloc)?;
-    let tour = canonical_tour(alloc, 4, &[1, 2, 3, 4])?.ok_or("no tour")?;
+    let tour = canonical_tour(alloc, &square, &[1, 2, 3, 4])?.ok_or("no tour")?;
     assert!(rt; has_length(&square, &tour, 40));
     assert!(rt; !has_length(&square, &tour, 41));
     Ok(())
@@ -144,6 +158,21 @@ fn the_dual_of_the_second_cut(rt: HostRuntime) -> Result<(), Fail> {
     assert!(rt; closes(alloc, &triangles, 198, &cuts, &path, &[], &second, &[])?);
     assert!(rt; !closes(alloc, &triangles, 199, &cuts, &path, &[], &second, &[])?);
     assert!(rt; !closes(alloc, &triangles, 198, &cuts, &path, &[], &first, &[])?);
+    Ok(())
+}
+
+#[test]
+fn depths_count_behind_the_fixed_pairs(rt: HostRuntime) -> Result<(), Fail> {
+    let alloc = rt.alloc();
+    let mut path = Path::root(alloc, 6, &[(0, 1), (2, 5)])?;
+    path.push(Cond::Absent(0, 2))?;
+    let triangle = set(alloc, &[1, 2, 3])?;
+    assert!(rt; triangle.is_proper());
+    path.push(Cond::Two(triangle))?;
+    assert!(rt; !names_clique(&path, 1));
+    assert!(rt; names_clique(&path, 2));
+    assert!(rt; !names_clique(&path, 3));
+    assert!(rt; !names_clique(&path, 4));
     Ok(())
 }
 

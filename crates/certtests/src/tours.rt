@@ -7,24 +7,34 @@ ghost use Rattle.certdef.specs.Accepted.{from_zero as lowered};
 ghost use Rattle.certdef.specs.Tests as tests;
 ghost use Rattle.certtests.specs.Places.{AreFromOne};
 
+use crate::steps::are_steps;
 use cyc::{Tour, TourError};
 use std::alloc::{AllocError, Global};
 use tspinst::Instance;
 
-/// The tour through cities from 1, if it is a tour of n cities in its canonical form.
-pub fn canonical_tour(alloc: Global, n: u32, cities: &[u64]) -> Result<Option<Tour>, AllocError>
-    requires many { 3 ≤ n }
-    requires few { n ≤ 2000 }
-    ensures found { IfOk result (λ o. is_some o ≡ tests.is_tour_from_one n cities.now) }
+/// The tour through cities from 1, if it is a tour of the instance, with each fixed pair as a step, in its canonical form.
+/// O(cities + fixed pairs).
+pub fn canonical_tour(
+    alloc: Global,
+    instance: &Instance,
+    cities: &[u64],
+) -> Result<Option<Tour>, AllocError>
+    ensures found { IfOk result (λ o. is_some o ≡ tests.is_tour_from_one instance.now cities.now) }
     ensures value { IfOk result (λ o. IfSome o (λ t. t ≡ lowered cities.now)) }
 {
-    let Some(numbers) = from_zero(alloc, n, cities)? else {
+    let Some(numbers) = from_zero(alloc, instance.n(), cities)? else {
         return Ok(None);
     };
     if !is_canonical(&numbers) {
         return Ok(None);
     }
-    tour_of(alloc, n, numbers)
+    let Some(tour) = tour_of(alloc, instance.n(), numbers)? else {
+        return Ok(None);
+    };
+    if !are_steps(alloc, tour.cities(), instance.fixed())? {
+        return Ok(None);
+    }
+    Ok(Some(tour))
 }
 
 /// Cities from 0, of cities from 1, if each is one of n cities.

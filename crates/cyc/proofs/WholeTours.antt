@@ -82,12 +82,12 @@ backward tour f b e = inr (
 )
 
 tour_of : List ℕ → Instance
-tour_of tour = record { n = length tour; table = [] }
+tour_of tour = record { n = length tour; table = []; fixed = [] }
 
 -- a form of the same cycle is a tour of as many cities
 form_is_tour : (tour form : List ℕ) → IsWhole tour → IsSameCycle tour form → IsTour (length tour) form
 unfolding tour_of
-form_is_tour tour form whole same = (same_cycle_is_same_tour (tour_of tour) tour form whole.is_tour same).is_tour
+form_is_tour tour form whole same = (same_cycle_is_same_tour (tour_of tour) tour form (record { is_tour = whole.is_tour; holds_fixed = tt }) same).is_tour.is_tour
 
 -- which of the two it is
 faced : (tour f b : List ℕ) → IsWhole tour → tour ≡ f ++ 0 ∷ b

@@ -3,7 +3,7 @@ use Rattle.std.proofs.Common.{◌≡◌, ℕ, zero, suc, ◌≤◌, List, [], �
 use Rattle.std.specs.Prelude.{Option}
 use Rattle.std.proofs.lemmas.List.{length-append}
 use Rattle.tspdef.specs.Instances.{Instance}
-use Rattle.tspdef.specs.Paths.{Condition, absent, present, two, four}
+use Rattle.tspdef.specs.Paths.{Condition, fixed, absent, present, two, four}
 use Rattle.simplex.specs.Lp.{Program, is_new_to, is_counted}
 use Rattle.simplex.specs.declared.answer.LpAnswer.{LpAnswer}
 use Rattle.nodelp.specs.Shapes.{degree_shapes, degree_shape, clique_shapes}
@@ -13,6 +13,7 @@ use Rattle.worker.specs.Works.{cliques}
 -- conditions on sets are counted alike
 pub cliques_are : (path : List Condition) → length (clique_shapes path) ≡ cliques path
 cliques_are [] = refl
+cliques_are (fixed u v ∷ path) = cliques_are path
 cliques_are (absent u v ∷ path) = cliques_are path
 cliques_are (present u v ∷ path) = cliques_are path
 cliques_are (two s ∷ path) = ap suc (cliques_are path)

@@ -1,6 +1,5 @@
 //! Nodes that are closed, and one that is split, at their roots.
 use crate::LpWorker;
-use branchx::Path;
 use cutform::Kind as CutKind;
 use distx::{Kind, Point};
 use neigh::nearest;
@@ -10,7 +9,7 @@ use std::alloc::Global;
 use std::process::Abort;
 use std::test::Fail;
 use tspinst::{Instance, from_points, read};
-use worker::{Why, Work, Worker};
+use worker::{Why, Work, Worker, root_path};
 
 /// Two triangles of sides 1, and 10 between them.
 const GROUPS: &[u8] =
@@ -58,7 +57,7 @@ fn root_work<W: Worker>(
     assert!(rt; instance.n() > 3);
     assert!(rt; best < 1 << 42);
     let near = nearest(alloc, instance, 3)?;
-    let path = Path::new(alloc, instance.n());
+    let path = root_path(alloc, instance)?;
     Ok(worker.work(alloc, instance, &near, &path, best, 1)?)
 }
 
@@ -69,14 +68,14 @@ fn closes_above(
     instance: &Instance,
     work: &Work,
     number: i128,
-) -> bool {
-    let path = Path::new(alloc, instance.n());
+) -> Result<bool, Fail> {
+    let path = root_path(alloc, instance)?;
     match &work.report {
         Report::Closed(closing) => {
             assert_eq!(rt; fits(instance, &path, closing), Fit::Fits);
-            bound(instance, &path, closing) > number
+            Ok(bound(instance, &path, closing) > number)
         }
-        Report::Split(_) => false,
+        Report::Split(_) => Ok(false),
     }
 }
 
@@ -118,7 +117,7 @@ fn the_square_is_closed_at_its_root(rt: HostRuntime) -> Result<(), Fail> {
     let alloc = rt.alloc();
     let instance = square(alloc)?;
     let work = root_work(&rt, alloc, &LpWorker, &instance, 40)?;
-    assert!(rt; closes_above(&rt, alloc, &instance, &work, 40_894_464));
+    assert!(rt; closes_above(&rt, alloc, &instance, &work, 40_894_464)?);
     assert!(rt; work.tour.is_none());
     assert!(rt; work.why.is_none());
     assert_eq!(rt; work.effort.closed, 1);
@@ -132,7 +131,7 @@ fn groups_are_closed_by_a_subtour_cut(rt: HostRuntime) -> Result<(), Fail> {
     let alloc = rt.alloc();
     let instance = told(alloc, GROUPS)?;
     let work = root_work(&rt, alloc, &LpWorker, &instance, 24)?;
-    assert!(rt; closes_above(&rt, alloc, &instance, &work, 23 << 20));
+    assert!(rt; closes_above(&rt, alloc, &instance, &work, 23 << 20)?);
     assert!(rt; 0 < work.effort.subtours);
     Ok(())
 }
@@ -143,7 +142,7 @@ fn the_prism_is_closed_by_a_comb(rt: HostRuntime) -> Result<(), Fail> {
     let alloc = rt.alloc();
     let instance = told(alloc, PRISM)?;
     let work = root_work(&rt, alloc, &LpWorker, &instance, 4)?;
-    assert!(rt; closes_above(&rt, alloc, &instance, &work, 3 << 20));
+    assert!(rt; closes_above(&rt, alloc, &instance, &work, 3 << 20)?);
     assert!(rt; closes_by_a_comb(&work));
     assert!(rt; 0 < work.effort.blossoms);
     assert!(rt; work.tour.is_none());
@@ -156,7 +155,7 @@ fn a_tour_is_found_on_the_way(rt: HostRuntime) -> Result<(), Fail> {
     let instance = told(alloc, PRISM)?;
     let work = root_work(&rt, alloc, &LpWorker, &instance, 300)?;
     assert_eq!(rt; found_length(&instance, &work), 4);
-    assert!(rt; closes_above(&rt, alloc, &instance, &work, 3 << 20));
+    assert!(rt; closes_above(&rt, alloc, &instance, &work, 3 << 20)?);
     Ok(())
 }
 

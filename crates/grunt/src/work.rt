@@ -1,7 +1,7 @@
 //! The worker with a linear program.
 ghost use Rattle.std.specs.Prelude.{◌≡◌, ◌^◌, ◌<◌, ◌≤◌, ◌↔◌, true, IfOk, IsSome};
 ghost use Rattle.worker.specs.Splits.{IsNeededSplit, needed_splits_stay};
-ghost use Rattle.worker.specs.Works.{IsWork, SplitsOnly, IsSplitting, cliques};
+ghost use Rattle.worker.specs.Works.{BeginsAt, IsWork, SplitsOnly, IsSplitting, cliques};
 ghost use Rattle.grunt.specs.Whys.{IsExplained};
 
 use crate::efforts::effort_of;
@@ -34,6 +34,7 @@ impl Worker for LpWorker {
         seed: u64,
     ) -> Result<Work, AllocError>
         requires cities { path.now.n ≡ instance.now.n }
+        requires begins { BeginsAt instance.now path.now.conditions }
         requires lists { near.now.n ≡ instance.now.n }
         requires few_cliques { cliques path.now.conditions ≤ 2 ^ 21 }
         requires short { best < 2 ^ 42 }
@@ -65,6 +66,7 @@ pub fn work_by_lp(
     seed: u64,
 ) -> Result<Work, AllocError>
     requires cities { path.now.n ≡ instance.now.n }
+    requires begins { BeginsAt instance.now path.now.conditions }
     requires lists { near.now.n ≡ instance.now.n }
     requires few_cliques { cliques path.now.conditions ≤ 2 ^ 21 }
     requires short { best < 2 ^ 42 }

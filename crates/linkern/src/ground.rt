@@ -33,6 +33,8 @@ pub(crate) struct Ground<'a> {
     width: usize,
     tour: ArrayTour,
     log: Vec<(u32, u32)>,
+    /// Whether any pair is fixed.
+    fixes: bool,
 }
 
 impl<'a> Ground<'a> {
@@ -49,6 +51,7 @@ impl<'a> Ground<'a> {
             width,
             tour,
             log: Vec::new(alloc),
+            fixes: !instance.fixed().is_empty(),
         };
         for city in 0..near.n() {
             ground.add_row(city, near.of(city))?;
@@ -90,6 +93,18 @@ impl<'a> Ground<'a> {
     #[inline]
     pub(crate) fn d(&self, a: u32, b: u32) -> i64 {
         i64::from(self.far(a, b))
+    }
+
+    /// Whether any pair is fixed.
+    #[inline]
+    pub(crate) fn fixes(&self) -> bool {
+        self.fixes
+    }
+
+    /// Whether a step may not be taken out.
+    #[inline]
+    pub(crate) fn is_fixed(&self, a: u32, b: u32) -> bool {
+        self.fixes && self.instance.is_fixed(a, b)
     }
 
     /// The cities near to one, the nearest first.

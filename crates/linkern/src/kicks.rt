@@ -1,6 +1,6 @@
 //! Steps until none is found, and kicks.
 
-use crate::ground::Ground;
+use crate::ground::{Ground, View};
 use crate::search::Search;
 use cyc::Tour;
 use flips::ArrayTour;
@@ -124,7 +124,24 @@ impl<'a> Work<'a> {
         ((u64::from(self.random.next_word()).wrapping_mul(u64::from(n)) >> 32) & 0xffff_ffff) as u32
     }
 
-    /// A double bridge: two neighbouring short paths of the tour change places. By how much it became longer.
+    /// The first rank from one on at which the step onward is not fixed; the number of cities where there is none.
+    fn free_from(&self, view: View, rank: u32) -> u32 {
+        if !self.ground.fixes() {
+            return rank;
+        }
+        let n = self.ground.n();
+        for free in rank..n {
+            let here = self.ground.ranked(view, free);
+            let there = self.ground.ranked(view, free.wrapping_add(1));
+            if !self.ground.is_fixed(here, there) {
+                return free;
+            }
+        }
+        n
+    }
+
+    /// A double bridge: two neighbouring short paths of the tour change places, each between two steps that are not fixed. By how
+    /// much it became longer; where too few steps are free it stays as it is.
     fn kick(&mut self) -> Result<i64, AllocError> {
         let n = self.ground.n();
         let reach = (n / 2).min(REACH);
@@ -132,9 +149,12 @@ impl<'a> Work<'a> {
         let mut cuts = [self.below(reach), self.below(reach), self.below(reach)];
         cuts.sort_unstable();
         let view = self.ground.view(start, false);
-        let one = cuts[0];
-        let two = cuts[1].max(one.wrapping_add(1));
-        let three = cuts[2].max(two.wrapping_add(1));
+        let one = self.free_from(view, cuts[0]);
+        let two = self.free_from(view, cuts[1].max(one.wrapping_add(1)));
+        let three = self.free_from(view, cuts[2].max(two.wrapping_add(1)));
+        if three >= n {
+            return Ok(0);
+        }
         let p = self.ground.ranked(view, one);
         let s1 = self.ground.ranked(view, one.wrapping_add(1));
         let e1 = self.ground.ranked(view, two);

@@ -8,7 +8,7 @@
 //!
 //! The tour itself is not touched while this goes on: the path is a list of parts of the tour, each read forwards or
 //! backwards, one more at each depth, and a city's neighbour is found by its rank. Only where a better tour was found its
-//! turns are made. A step that was added lies between two parts, so it is never taken out again.
+//! turns are made. A step that was added lies between two parts, so it is never taken out again. Nor is a fixed step taken out.
 //! Cost of one call: O(1) choices at O(depth) each, and O(n) at most for each turn of a better tour.
 //! Source: Lin and Kernighan 1973; Johnson and McGeoch 1997.
 
@@ -158,7 +158,7 @@ fn choices(
             near_rank.wrapping_add(1)
         };
         let end = ground.ranked(view, end_rank);
-        if end == t2 {
+        if end == t2 || ground.is_fixed(t3, end) {
             continue;
         }
         let mut held = Choice {
@@ -193,6 +193,9 @@ fn cycles(ground: &Ground, view: View, t1: u32, t2: u32) -> [Cycle; 3] {
             continue;
         }
         let t4 = ground.ranked(view, near_rank.wrapping_add(1));
+        if ground.is_fixed(near.city, t4) {
+            continue;
+        }
         let open = rest.wrapping_add(ground.d(near.city, t4));
         for other in ground.near(t4).iter().take(CYCLE_WIDTH) {
             let rest = open.wrapping_sub(i64::from(other.far));
@@ -213,6 +216,9 @@ fn cycles(ground: &Ground, view: View, t1: u32, t2: u32) -> [Cycle; 3] {
                     inner_rank.wrapping_sub(1)
                 };
                 let last = ground.ranked(view, last_rank);
+                if ground.is_fixed(other.city, last) {
+                    continue;
+                }
                 let mut held = Cycle {
                     open: rest.wrapping_add(ground.d(other.city, last)),
                     near: near.city,
@@ -445,7 +451,7 @@ impl Search {
     }
 
     /// Looks for a better tour without the step from `t1` to `t2`, which is the next city, or the one before where the tour
-    /// is read against its direction. By how much it is shorter; 0 where none was found.
+    /// is read against its direction. By how much it is shorter; 0 where none was found, and where that step is fixed.
     pub(crate) fn from_step(
         &mut self,
         ground: &Ground,
@@ -457,6 +463,9 @@ impl Search {
         self.gain = 0;
         self.best.clear();
         self.turns.clear();
+        if ground.is_fixed(t1, t2) {
+            return Ok(0);
+        }
         self.parts.push(Part {
             first: 0,
             last: ground.n().wrapping_sub(1),

@@ -3,3 +3,4 @@ pub mod RoomLemmas
 pub mod CrossingLemmas
 pub mod SideLemmas
 pub mod FlowLemmas
+pub mod ShrinkLemmas

@@ -1,7 +1,7 @@
 -- The sets that a search met.
-use Rattle.std.proofs.Common.{◌≡◌, ℕ, ◌+◌, ◌<◌, ◌≤◌, Bool, true, false, eqb, ◌||◌, List, [], ◌∷◌, ◌++◌, refl, subst, sym, ◌∙◌, arith, ⊎_elim}
-use Rattle.std.proofs.lemmas.Bool.{cases_eq, eq-eqb, ne_eqb}
-use Rattle.tspdef.specs.Sets.{has, RisesFrom}
+use Rattle.std.proofs.Common.{◌≡◌, ℕ, ◌+◌, ◌<◌, ◌≤◌, Bool, true, false, eqb, ◌||◌, List, [], ◌∷◌, ◌++◌, length, refl, subst, sym, ◌∙◌, arith, ⊎_elim}
+use Rattle.std.proofs.lemmas.Bool.{cases_eq, cases_lt, or_parts, eq-eqb, ne_eqb, eqb-false}
+use Rattle.tspdef.specs.Sets.{has, RisesFrom, IsSet, IsProper}
 use Rattle.cyc.proofs.ListLemmas.{has-push}
 
 -- one city more, the last
@@ -49,4 +49,34 @@ those_skip k passes xs a f = record {
       (λ (ne : j ≡ k → ⊥). a.below j (omega arith))
       (cases_eq j k);
   past = λ j h. a.past j (omega arith);
+}
+
+-- ---- proper sets
+
+few_from : (n m : ℕ) (s : List ℕ) → m ≤ n → RisesFrom n m s → m + length s ≤ n
+few_from n m [] l r = omega arith
+few_from n m (c ∷ cs) l r = let a = r.0.0 in let b = r.0.1 in let ih = few_from n (c + 1) cs (omega arith) r.1 in omega arith
+
+-- a rising list that lacks a city is short
+short_from : (n m k : ℕ) (s : List ℕ) → RisesFrom n m s → m ≤ k → k < n → has s k ≡ false → m + length s < n
+short_from n m k [] r l h f = omega arith
+short_from n m k (c ∷ cs) r l h f =
+    let p = or_parts (eqb c k) (has cs k) f in
+    let a = r.0.0 in
+    let b = r.0.1 in
+    ⊎_elim
+    (λ (q : c < k). let ih = short_from n (c + 1) k cs r.1 (omega arith) h p.1 in omega arith)
+    (λ (q : k ≤ c). let few = few_from n (c + 1) cs (omega arith) r.1 in let ne : c ≡ k → ⊥ = eqb-false c k p.0 in omega arith)
+    (cases_lt c k)
+
+some_in : (s : List ℕ) (k : ℕ) → has s k ≡ true → 0 < length s
+some_in [] k h = absurd cc
+some_in (c ∷ cs) k h = omega arith
+
+-- a set that holds one city and lacks another is proper
+pub proper_from : (n i o : ℕ) (s : List ℕ) → IsSet n s → has s i ≡ true → o < n → has s o ≡ false → IsProper n s
+proper_from n i o s set holds inside lacks = record {
+  set = set;
+  some = some_in s i holds;
+  not_all = let l = short_from n 0 o s set (omega arith) inside lacks in omega arith;
 }

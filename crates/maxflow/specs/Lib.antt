@@ -3,3 +3,4 @@ pub mod Flows
 pub mod Edges
 pub mod Searches
 pub mod NetworkInside
+pub mod Shrinking

@@ -2,6 +2,7 @@
 //!
 //! - [`flow`] parts two cities: the least crossing weight of the sets that hold the one and not the other, and such a set.
 //! - [`Network`] answers the same question many times over one list of values, with any number of cities as the far end.
+//! - [`shrink`] merges groups of cities that no least set needs to part, so that flows can run between fewer.
 //!
 //! A flow goes along shortest paths of what room is left (Edmonds and Karp 1972). Its value is the crossing weight of the
 //! side that no room leads out of, and of no set that parts the two less (Ford and Fulkerson 1956). The proof keeps one
@@ -12,14 +13,18 @@ ghost use Rattle.std.specs.Prelude.{◌≡◌, ◌<◌, ◌≢◌, ℕ, true, fa
 ghost use Rattle.maxflow.specs.Crossings.{crossing};
 ghost use Rattle.maxflow.specs.Flows.{is_stop, IsLeastSide, IsLeastFlow};
 
+mod groups;
 mod network;
 mod residual;
 mod route;
 mod rows;
 mod search;
+mod shrinking;
+mod sums;
 
 use cyc::{CitySet, Frac};
 pub use network::Network;
+pub use shrinking::{Shrunk, shrink};
 use std::alloc::{AllocError, Global};
 
 /// What a greatest flow sends, in units, and the side that it ends at: a set of cities that is crossed by just as much.

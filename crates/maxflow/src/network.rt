@@ -1,11 +1,11 @@
 //! The pairs of positive value as a network.
-ghost use Rattle.std.specs.Prelude.{◌≡◌, ◌<◌, ◌≤◌, ◌^◌, ℕ, Bool, false, List, length, pos, IfOk, MatchOption};
+ghost use Rattle.std.specs.Prelude.{◌≡◌, ◌+◌, ◌%◌, ◌<◌, ◌≤◌, ◌^◌, ℕ, Bool, false, List, length, slice_index, pos, IfOk, MatchOption};
 ghost use Rattle.std.specs.List.{All};
-ghost use Rattle.maxflow.specs.Crossings.{crossing_weight, crossing, IsPair};
+ghost use Rattle.maxflow.specs.Crossings.{crossing_weight, crossing, between_cities, IsPair};
 ghost use Rattle.maxflow.specs.Flows.{is_stop, IsBelowAll, IsLeastFlow};
 
 use crate::rows::Rows;
-use crate::{LeastSide, route};
+use crate::{LeastSide, route, sums};
 use cyc::{Entry, Frac};
 use std::alloc::{AllocError, Global};
 use std::marker::Model;
@@ -51,15 +51,14 @@ impl Network {
         self.n
     }
 
-    /// Adds to each city's weight the value of its pair with `city`. Nothing is proved of the sums, which may wrap.
-    pub fn add_values(&self, city: u32, weights: &mut [u64]) {
-        for place in self.rows.row(city) {
-            if let Some(pair) = self.pairs.get(*place) {
-                let other = if pair.u == city { pair.v } else { pair.u };
-                if let Some(weight) = weights.get_mut(other as usize) {
-                    *weight = weight.wrapping_add(u64::from(pair.x));
-                }
-            }
+    /// Adds to each city's weight the value of its pair with `city`, modulo 2^64.
+    pub fn add_values(&self, city: u32, weights: &mut [u64])
+        ensures size { length weights.new ≡ length weights.old }
+        ensures sums { (k : ℕ) → k < length weights.old → slice_index weights.new k
+            ≡ (slice_index weights.old k + between_cities self.now.entries city k) % 2 ^ 64 }
+    {
+        for pair in &self.pairs {
+            sums::add_from(weights, city, pair.u, pair.v, pair.x);
         }
     }
 

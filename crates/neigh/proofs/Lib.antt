@@ -1,3 +1,5 @@
 pub mod KeepLemmas
 pub mod ListLemmas
 pub mod WalkLemmas
+pub mod PairLemmas
+pub mod FixedWalks

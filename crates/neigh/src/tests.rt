@@ -66,3 +66,48 @@ fn cities_at_one_point_are_near_by_number(rt: HostRuntime) -> Result<(), Fail> {
     );
     Ok(())
 }
+
+#[test]
+fn the_walk_goes_to_a_fixed_partner_first(rt: HostRuntime) -> Result<(), Fail> {
+    let square = square(rt.alloc())?.fix(rt.alloc(), &[(2, 0)])?;
+    let walk = nearest_walk(rt.alloc(), &square)?;
+    assert_eq!(rt; walk.cities(), [0, 2, 1, 3].as_slice());
+    Ok(())
+}
+
+#[test]
+fn the_walk_goes_along_a_whole_fixed_tour(rt: HostRuntime) -> Result<(), Fail> {
+    let square = square(rt.alloc())?.fix(rt.alloc(), &[(0, 2), (2, 1), (1, 3), (3, 0)])?;
+    let walk = nearest_walk(rt.alloc(), &square)?;
+    assert_eq!(rt; walk.cities(), [0, 3, 1, 2].as_slice());
+    Ok(())
+}
+
+#[test]
+fn the_walk_enters_a_fixed_path_at_its_end(rt: HostRuntime) -> Result<(), Fail> {
+    let mut points = Vec::new(rt.alloc());
+    points.push(Point::new(0, 0))?;
+    points.push(Point::new(10, 0))?;
+    points.push(Point::new(1, 0))?;
+    points.push(Point::new(12, 0))?;
+    prove!(points.len() == 4);
+    let instance = from_points(rt.alloc(), Kind::Euc, &points)?;
+    assert_eq!(rt;
+        nearest_walk(rt.alloc(), &instance)?.cities(),
+        [0, 2, 1, 3].as_slice()
+    );
+    let fixed = instance.fix(rt.alloc(), &[(1, 2), (2, 3)])?;
+    assert_eq!(rt;
+        nearest_walk(rt.alloc(), &fixed)?.cities(),
+        [0, 1, 2, 3].as_slice()
+    );
+    Ok(())
+}
+
+#[test]
+fn the_walk_begins_at_an_end_of_a_path(rt: HostRuntime) -> Result<(), Fail> {
+    let square = square(rt.alloc())?.fix(rt.alloc(), &[(0, 2), (0, 3)])?;
+    let walk = nearest_walk(rt.alloc(), &square)?;
+    assert_eq!(rt; walk.cities(), [1, 2, 0, 3].as_slice());
+    Ok(())
+}

@@ -6,8 +6,9 @@ use Rattle.std.proofs.lemmas.Bool.{cond_both}
 use Rattle.std.proofs.lemmas.List.{map-append, append_assoc, drop_more, length-append}
 use Rattle.std.specs.declared.cmp.Ordering.TheVariants.{Less}
 use Rattle.tspdef.specs.Cuts.{Cut, cut_cmp, IsCut}
-use Rattle.tspdef.specs.Paths.{Condition, absent, present, two, four, condition_at, IsClique}
+use Rattle.tspdef.specs.Paths.{Condition, fixed, absent, present, two, four, branches, condition_at, IsClique}
 use Rattle.tspdef.specs.Closings.{CutsRise, AreRisingCuts, DepthsRise, NamesCliques, Fits}
+use Rattle.tspdef.proofs.RootLemmas.{branches_join}
 use Rattle.cutform.specs.Order.{ordered_cuts}
 use Rattle.branchx.specs.declared.cond.Cond.{Cond}
 use Rattle.branchx.specs.Cond.{condition_of, conditions_of}
@@ -84,6 +85,7 @@ one_depth d depth y qs l r =
 
 depths_rise : (ys : List ℤ) (d depth row : ℕ) (path : List Condition) → d < depth → DepthsRise d (positive (clique_duals ys depth row path))
 depths_rise ys d depth row [] l = tt
+depths_rise ys d depth row (fixed u v ∷ path) l = depths_rise ys d depth row path l
 depths_rise ys d depth row (absent u v ∷ path) l = depths_rise ys d (depth + 1) row path (omega (arith, l))
 depths_rise ys d depth row (present u v ∷ path) l = depths_rise ys d (depth + 1) row path (omega (arith, l))
 depths_rise ys d depth row (two s ∷ path) l = one_depth d depth (dual_at ys row) (clique_duals ys (depth + 1) (row + 1) path) l (depths_rise ys depth (depth + 1) (row + 1) path (omega arith))
@@ -95,28 +97,45 @@ get_at [] ys y (suc k) e = absurd (omega arith)
 get_at (x ∷ xs) ys y zero e = absurd (omega arith)
 get_at (x ∷ xs) ys y (suc k) e = get_at xs ys y k (omega arith)
 
-at_depth : (before path : List Condition) (c : Condition) (depth : ℕ) → depth ≡ length before + 1 → condition_at (before ++ c ∷ path) depth ≡ Some c
-at_depth before path c zero e = absurd (omega arith)
-at_depth before path c (suc k) e = get_at before path c k (omega arith)
+at_depth : (before path : List Condition) (c : Condition) (depth : ℕ) → depth ≡ length (branches before) + 1 → branches (c ∷ path) ≡ c ∷ branches path → condition_at (before ++ c ∷ path) depth ≡ Some c
+at_depth before path c zero e own = absurd (omega arith)
+at_depth before path c (suc k) e own =
+    ap (λ (l : List Condition). slice_get l k) (branches_join before (c ∷ path) ∙ ap (λ (l : List Condition). branches before ++ l) own)
+    ∙ get_at (branches before) (branches path) c k (omega arith)
+
+-- a fixed pair has no depth, and each other condition has one
+behind_fixed : (before : List Condition) (u v : ℕ) → length (branches (before ++ fixed u v ∷ [])) ≡ length (branches before)
+behind_fixed before u v = ap (λ (l : List Condition). length l) (branches_join before (fixed u v ∷ [])) ∙ (length-append (branches before) [] ∙ omega arith)
+
+behind_other : (before : List Condition) (c : Condition) → branches (c ∷ []) ≡ c ∷ [] → length (branches (before ++ c ∷ [])) ≡ length (branches before) + 1
+behind_other before c own = ap (λ (l : List Condition). length l) (branches_join before (c ∷ []) ∙ ap (λ (l : List Condition). branches before ++ l) own) ∙ length-append (branches before) (c ∷ [])
 
 one_named : (path : List Condition) (depth : ℕ) (y : ℤ) (qs : List (ℕ × ℤ)) → IsClique (condition_at path depth) → NamesCliques path (positive qs) → NamesCliques path (positive ((depth, y) ∷ qs))
 one_named path depth y qs h r =
     cond_both (int_lt (pos 0) y) ((depth, min (nat_abs y) (2 ^ 62)) ∷ positive qs) (positive qs) (NamesCliques path) (λ e. (h, r)) (λ e. r)
 
-names_from : (ys : List ℤ) (before path whole : List Condition) (depth row : ℕ) → whole ≡ before ++ path → depth ≡ length before + 1 → NamesCliques whole (positive (clique_duals ys depth row path))
+one_on : (before path whole : List Condition) (c : Condition) → whole ≡ before ++ c ∷ path → whole ≡ (before ++ c ∷ []) ++ path
+one_on before path whole c is = is ∙ sym (append_assoc before (c ∷ []) path)
+
+next_depth : (before : List Condition) (c : Condition) (depth : ℕ) → branches (c ∷ []) ≡ c ∷ [] → depth ≡ length (branches before) + 1 → depth + 1 ≡ length (branches (before ++ c ∷ [])) + 1
+next_depth before c depth own at = let l = behind_other before c own in omega (arith, l, at)
+
+names_from : (ys : List ℤ) (before path whole : List Condition) (depth row : ℕ) → whole ≡ before ++ path → depth ≡ length (branches before) + 1 → NamesCliques whole (positive (clique_duals ys depth row path))
 names_from ys before [] whole depth row is at = tt
-names_from ys before (c ∷ path) whole depth row is at =
-    let here : condition_at whole depth ≡ Some c = ap (λ (p : List Condition). condition_at p depth) is ∙ at_depth before path c depth at in
-    let next : whole ≡ (before ++ c ∷ []) ++ path = is ∙ sym (append_assoc before (c ∷ []) path) in
-    let long = length-append before (c ∷ []) in
-    names_one c (names_from ys (before ++ c ∷ []) path whole (depth + 1) row next (omega (arith, long, at))) (names_from ys (before ++ c ∷ []) path whole (depth + 1) (row + 1) next (omega (arith, long, at))) here
-  where
-    names_one : (c : Condition) → NamesCliques whole (positive (clique_duals ys (depth + 1) row path)) → NamesCliques whole (positive (clique_duals ys (depth + 1) (row + 1) path)) → condition_at whole depth ≡ Some c
-        → NamesCliques whole (positive (clique_duals ys depth row (c ∷ path)))
-    names_one (absent u v) a b h = a
-    names_one (present u v) a b h = a
-    names_one (two s) a b h = one_named whole depth (dual_at ys row) (clique_duals ys (depth + 1) (row + 1) path) (subst IsClique (sym h) tt) b
-    names_one (four s) a b h = one_named whole depth (dual_at ys row) (clique_duals ys (depth + 1) (row + 1) path) (subst IsClique (sym h) tt) b
+names_from ys before (fixed u v ∷ path) whole depth row is at =
+    names_from ys (before ++ fixed u v ∷ []) path whole depth row (one_on before path whole (fixed u v) is) (let l = behind_fixed before u v in omega (arith, l, at))
+names_from ys before (absent u v ∷ path) whole depth row is at =
+    names_from ys (before ++ absent u v ∷ []) path whole (depth + 1) row (one_on before path whole (absent u v) is) (next_depth before (absent u v) depth refl at)
+names_from ys before (present u v ∷ path) whole depth row is at =
+    names_from ys (before ++ present u v ∷ []) path whole (depth + 1) row (one_on before path whole (present u v) is) (next_depth before (present u v) depth refl at)
+names_from ys before (two s ∷ path) whole depth row is at =
+    let here : condition_at whole depth ≡ Some (two s) = ap (λ (p : List Condition). condition_at p depth) is ∙ at_depth before path (two s) depth at refl in
+    one_named whole depth (dual_at ys row) (clique_duals ys (depth + 1) (row + 1) path) (subst IsClique (sym here) tt)
+    (names_from ys (before ++ two s ∷ []) path whole (depth + 1) (row + 1) (one_on before path whole (two s) is) (next_depth before (two s) depth refl at))
+names_from ys before (four s ∷ path) whole depth row is at =
+    let here : condition_at whole depth ≡ Some (four s) = ap (λ (p : List Condition). condition_at p depth) is ∙ at_depth before path (four s) depth at refl in
+    one_named whole depth (dual_at ys row) (clique_duals ys (depth + 1) (row + 1) path) (subst IsClique (sym here) tt)
+    (names_from ys (before ++ four s ∷ []) path whole (depth + 1) (row + 1) (one_on before path whole (four s) is) (next_depth before (four s) depth refl at))
 
 -- ---- the closing
 
@@ -139,21 +158,22 @@ cut_duals_push ys qs q = map-append (λ (p : Cut × ℕ). (p.0, dual_at ys p.1))
 
 -- ---- the duals of one more condition
 
-duals_one : (ys : List ℤ) (d r : ℕ) (c : Condition) (cs : List Condition) → clique_duals ys d r (c ∷ cs) ≡ clique_duals ys d r (c ∷ []) ++ clique_duals ys (d + 1) (r + cliques (c ∷ [])) cs
+duals_one : (ys : List ℤ) (d r : ℕ) (c : Condition) (cs : List Condition) → clique_duals ys d r (c ∷ cs) ≡ clique_duals ys d r (c ∷ []) ++ clique_duals ys (d + length (branches (c ∷ []))) (r + cliques (c ∷ [])) cs
+duals_one ys d r (fixed u v) cs = let e : r ≡ r + 0 = omega arith in let f : d ≡ d + 0 = omega arith in ap (λ k. clique_duals ys k r cs) f ∙ ap (λ k. clique_duals ys (d + 0) k cs) e
 duals_one ys d r (absent u v) cs = let e : r ≡ r + 0 = omega arith in ap (λ k. clique_duals ys (d + 1) k cs) e
 duals_one ys d r (present u v) cs = let e : r ≡ r + 0 = omega arith in ap (λ k. clique_duals ys (d + 1) k cs) e
 duals_one ys d r (two s) cs = refl
 duals_one ys d r (four s) cs = refl
 
 pub duals_more : (ys : List ℤ) (xs : List Cond) (i d r next depth : ℕ) (x : Cond) (old new whole : List (ℕ × ℤ)) → i < length xs → x ≡ get_or xs i x → new ≡ old ++ clique_duals ys d r (condition_of x ∷ []) → next ≡ r + cliques (condition_of x ∷ [])
-    → depth ≡ d + 1 → old ++ clique_duals ys d r (conditions_of (drop i xs)) ≡ whole → new ++ clique_duals ys depth next (conditions_of (drop (i + 1) xs)) ≡ whole
+    → depth ≡ d + length (branches (condition_of x ∷ [])) → old ++ clique_duals ys d r (conditions_of (drop i xs)) ≡ whole → new ++ clique_duals ys depth next (conditions_of (drop (i + 1) xs)) ≡ whole
 duals_more ys xs i d r next depth x old new whole inside is new_is next_is depth_is so_far =
     let rest = conditions_of (drop (i + 1) xs) in
     let split : conditions_of (drop i xs) ≡ condition_of x ∷ rest = ap conditions_of (known xs i x is inside) in
     let one = clique_duals ys d r (condition_of x ∷ []) in
     ap (λ (l : List (ℕ × ℤ)). l ++ clique_duals ys depth next rest) new_is
     ∙ (ap (λ k. (old ++ one) ++ clique_duals ys k next rest) depth_is
-    ∙ (ap (λ k. (old ++ one) ++ clique_duals ys (d + 1) k rest) next_is
-    ∙ (append_assoc old one (clique_duals ys (d + 1) (r + cliques (condition_of x ∷ [])) rest)
+    ∙ (ap (λ k. (old ++ one) ++ clique_duals ys (d + length (branches (condition_of x ∷ []))) k rest) next_is
+    ∙ (append_assoc old one (clique_duals ys (d + length (branches (condition_of x ∷ []))) (r + cliques (condition_of x ∷ [])) rest)
     ∙ (ap (λ (l : List (ℕ × ℤ)). old ++ l) (sym (duals_one ys d r (condition_of x) rest))
     ∙ (ap (λ (p : List Condition). old ++ clique_duals ys d r p) (sym split) ∙ so_far)))))

@@ -6,7 +6,7 @@ use Rattle.std.proofs.lemmas.Bool.{cases_Bool, or_parts, or_cases, or_left, or_r
 use Rattle.std.proofs.lemmas.Bool.Decides.{nat_tests}
 use Rattle.std.proofs.lemmas.List.{length-append, drop-append-le, drop_all, take-append-drop}
 use Rattle.tspdef.specs.Tours.{joins}
-use Rattle.tspdef.specs.Paths.{Condition, absent, present, two, four, is_absent, is_present, is_decided, MayFollow, IsPath}
+use Rattle.tspdef.specs.Paths.{Condition, fixed, absent, present, two, four, is_absent, is_present, is_decided, IsPair, MayFollow, IsPath}
 use Rattle.tspdef.specs.Instances.{Instance, dist}
 use Rattle.branchx.specs.declared.cond.Cond.{Cond}
 use Rattle.branchx.specs.Cond.{condition_of, conditions_of}
@@ -90,6 +90,7 @@ absent_push (absent a b ∷ path) c u v = ap (λ (x : Bool). joins u v (a, b) ||
   assoc : (x y z : Bool) → (x || (y || z)) ≡ ((x || y) || z)
   assoc true y z = refl
   assoc false y z = refl
+absent_push (fixed a b ∷ path) c u v = absent_push path c u v
 absent_push (present a b ∷ path) c u v = absent_push path c u v
 absent_push (two s ∷ path) c u v = absent_push path c u v
 absent_push (four s ∷ path) c u v = absent_push path c u v
@@ -100,6 +101,7 @@ not_forbidden n path (absent a b) u v m p = ⊎_elim
     (λ (j : joins u v (a, b) ≡ true). absurd (false≢true (sym (undecided_at path a b u v j m.1).1 ∙ p)))
     (λ (j : joins u v (a, b) ≡ false). ap (λ (x : Bool). x || false) j)
     (cases_Bool (joins u v (a, b)))
+not_forbidden n path (fixed a b) u v m p = refl
 not_forbidden n path (present a b) u v m p = refl
 not_forbidden n path (two s) u v m p = refl
 not_forbidden n path (four s) u v m p = refl
@@ -147,45 +149,49 @@ joined_col cols a b u v l m j h = let e = same_ends a b u v l m j in subst (λ x
   same_ends : (a b u v : ℕ) → u < v → a < b → joins u v (a, b) ≡ true → (a ≡ u) × (b ≡ v)
   same_ends a b u v l m j = (grind (arith, nat_tests), grind (arith, nat_tests))
 
-wanted_present : (i : Instance) (path : List Condition) (a b : ℕ) (cols : List Column) → MayFollow i.n path (present a b) → AreWanted i path cols → AreWanted i (path ++ present a b ∷ []) (with_col i a b true cols)
-wanted_present i path a b cols m w =
-    let more = path ++ present a b ∷ [] in
+-- a further condition that wants a pair: a fixed or a used one
+wanted_used : (i : Instance) (path : List Condition) (d : Condition) (a b : ℕ) (cols : List Column) → MayFollow i.n path d → IsPair i.n a b → is_decided path a b ≡ false
+    → ((u v : ℕ) → is_present (d ∷ []) u v ≡ is_present (present a b ∷ []) u v) → ((u v : ℕ) → is_absent (d ∷ []) u v ≡ false)
+    → AreWanted i path cols → AreWanted i (path ++ d ∷ []) (with_col i a b true cols)
+wanted_used i path d a b cols m pair free used none w =
+    let more = path ++ d ∷ [] in
     let c : Column = record { u = a; v = b; cost = dist i a b; must = true } in
-    let open_pair = or_parts (is_absent path a b) (is_present path a b) m.1 in
-    let itself : is_present (present a b ∷ []) a b ≡ true = or_only (joins a b (a, b)) ∙ joins_itself a b in
-    let now : is_present more a b ≡ true = is_present-append path (present a b ∷ []) a b ∙ or_right (is_present path a b) (is_present (present a b ∷ []) a b) itself in
+    let open_pair = or_parts (is_absent path a b) (is_present path a b) free in
+    let itself : is_present (d ∷ []) a b ≡ true = used a b ∙ (or_only (joins a b (a, b)) ∙ joins_itself a b) in
+    let now : is_present more a b ≡ true = is_present-append path (d ∷ []) a b ∙ or_right (is_present path a b) (is_present (d ∷ []) a b) itself in
     let is : IsWanted i more c = (
       record {
-        ordered = m.0.0;
-        within = m.0.1;
+        ordered = pair.0;
+        within = pair.1;
         cost = refl;
         must = sym now;
-        free = absent_push path (present a b) a b ∙ (or_only (is_absent path a b) ∙ open_pair.0);
+        free = absent_push path d a b ∙ (ap (λ (x : Bool). is_absent path a b || x) (none a b) ∙ (or_only (is_absent path a b) ∙ open_pair.0));
       },
       now,
     ) in
     ⊎_elim
     (λ h. subst (AreWanted i more) (sym (cond-true (is_col cols a b) cols (cols ++ c ∷ []) h)) (record {
       distinct = w.distinct;
-      each = all_still i path (present a b) cols m w.each;
+      each = all_still i path d cols m w.each;
       all = λ u v low high p. ⊎_elim
           (λ q. w.all u v low high q)
-          (λ q. joined_col cols a b u v low m.0.0 (present_joins a b u v q) h)
-          (or_cases (is_present path u v) (is_present (present a b ∷ []) u v) (sym (is_present-append path (present a b ∷ []) u v) ∙ p));
+          (λ q. joined_col cols a b u v low pair.0 (present_joins a b u v (sym (used u v) ∙ q)) h)
+          (or_cases (is_present path u v) (is_present (d ∷ []) u v) (sym (is_present-append path (d ∷ []) u v) ∙ p));
     }))
     (λ h. subst (AreWanted i more) (sym (cond-false (is_col cols a b) cols (cols ++ c ∷ []) h)) (record {
-      distinct = columns_push i.n cols c w.distinct m.0.0 m.0.1 h;
-      each = all_push (IsWanted i more) cols c (all_still i path (present a b) cols m w.each) is;
+      distinct = columns_push i.n cols c w.distinct pair.0 pair.1 h;
+      each = all_push (IsWanted i more) cols c (all_still i path d cols m w.each) is;
       all = λ u v low high p. ⊎_elim
           (λ q. col_still cols c u v (w.all u v low high q))
-          (λ q. col_new cols c u v (present_joins a b u v q))
-          (or_cases (is_present path u v) (is_present (present a b ∷ []) u v) (sym (is_present-append path (present a b ∷ []) u v) ∙ p));
+          (λ q. col_new cols c u v (present_joins a b u v (sym (used u v) ∙ q)))
+          (or_cases (is_present path u v) (is_present (d ∷ []) u v) (sym (is_present-append path (d ∷ []) u v) ∙ p));
     }))
     (cases_Bool (is_col cols a b))
 
 wanted_more : (i : Instance) (path : List Condition) (c : Condition) (cols : List Column) → MayFollow i.n path c → AreWanted i path cols → AreWanted i (path ++ c ∷ []) (with_wanted i c cols)
 wanted_more i path (absent a b) cols m w = same_wanted i path (absent a b) cols m (λ u v. refl) w
-wanted_more i path (present a b) cols m w = wanted_present i path a b cols m w
+wanted_more i path (fixed a b) cols m w = wanted_used i path (fixed a b) a b cols m m.0.0 m.0.1 (λ u v. refl) (λ u v. refl) w
+wanted_more i path (present a b) cols m w = wanted_used i path (present a b) a b cols m m.0 m.1 (λ u v. refl) (λ u v. refl) w
 wanted_more i path (two s) cols m w = same_wanted i path (two s) cols m (λ u v. refl) w
 wanted_more i path (four s) cols m w = same_wanted i path (four s) cols m (λ u v. refl) w
 

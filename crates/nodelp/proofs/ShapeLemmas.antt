@@ -3,7 +3,7 @@ use Rattle.std.proofs.Common.{◌≡◌, ℕ, zero, suc, ◌+◌, ◌<◌, List,
 use Rattle.std.specs.List.{All}
 use Rattle.std.proofs.lemmas.List.{map-append, length-append, length-map, append_assoc}
 use Rattle.std.proofs.lemmas.List.Elements.{All-push}
-use Rattle.tspdef.specs.Paths.{Condition, absent, present, two, four}
+use Rattle.tspdef.specs.Paths.{Condition, fixed, absent, present, two, four}
 use Rattle.branchx.specs.declared.cond.Cond.{Cond}
 use Rattle.branchx.specs.Cond.{condition_of, conditions_of}
 use Rattle.branchx.proofs.PathLemmas.{conditions-more}
@@ -32,6 +32,7 @@ degree_length (suc n) = let l = length-append (degree_shapes n) (degree_shape n 
 
 clique_shapes-append : (a b : List Condition) → clique_shapes (a ++ b) ≡ clique_shapes a ++ clique_shapes b
 clique_shapes-append [] b = refl
+clique_shapes-append (fixed u v ∷ a) b = clique_shapes-append a b
 clique_shapes-append (absent u v ∷ a) b = clique_shapes-append a b
 clique_shapes-append (present u v ∷ a) b = clique_shapes-append a b
 clique_shapes-append (two s ∷ a) b = ap (λ l. two_shape s ∷ l) (clique_shapes-append a b)

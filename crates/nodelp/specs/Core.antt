@@ -2,7 +2,7 @@
 use Rattle.std.specs.Prelude.{◌≡◌, ℕ, ◌<◌, Bool, true, false, cond, List, [], ◌∷◌, ◌++◌, pos}
 use Rattle.std.specs.List.{AllByRecursion}
 use Rattle.std.specs.Int.Signed.{lt_z}
-use Rattle.tspdef.specs.Paths.{Condition, absent, present, two, four, is_present, is_decided}
+use Rattle.tspdef.specs.Paths.{Condition, fixed, absent, present, two, four, is_present, is_decided}
 use Rattle.tspdef.specs.Instances.{Instance, dist}
 use Rattle.lpcheck.specs.Rows.{reduced}
 use Rattle.lpcheck.specs.declared.column.Column.{Column}
@@ -17,6 +17,7 @@ with_col i u v must cols = cond (is_col cols u v) cols (cols ++ record { u = u; 
 
 -- the pair of a condition that wants it is given a column
 abbrev pub with_wanted : Instance → Condition → List Column → List Column
+with_wanted i (fixed u v) cols = with_col i u v true cols
 with_wanted i (absent u v) cols = cols
 with_wanted i (present u v) cols = with_col i u v true cols
 with_wanted i (two s) cols = cols

@@ -1,7 +1,7 @@
 -- The closing that the newest duals make.
 use Rattle.std.specs.Prelude.{ℕ, ◌+◌, List, [], ◌∷◌, map, take, ℤ, pos, slice_index_or, Option, Some, None}
 use Rattle.tspdef.specs.Cuts.{Cut}
-use Rattle.tspdef.specs.Paths.{Condition, absent, present, two, four}
+use Rattle.tspdef.specs.Paths.{Condition, fixed, absent, present, two, four}
 use Rattle.tspdef.specs.Closings.{Closing}
 use Rattle.simplex.specs.Lp.{duals_in}
 use Rattle.simplex.specs.declared.answer.LpAnswer.{LpAnswer}
@@ -17,9 +17,10 @@ abbrev pub cut_duals : List ℤ → List (Cut × ℕ) → List (Cut × ℤ)
 cut_duals ys cuts = map (λ q. (q.0, dual_at ys q.1)) cuts
 
 -- the depths of a path's conditions on sets with the duals of their rows, where the path begins at a depth and those rows
--- at a place
+-- at a place; fixed pairs have no depth
 abbrev pub clique_duals : List ℤ → ℕ → ℕ → List Condition → List (ℕ × ℤ)
 clique_duals ys depth row [] = []
+clique_duals ys depth row (fixed u v ∷ cs) = clique_duals ys depth row cs
 clique_duals ys depth row (absent u v ∷ cs) = clique_duals ys (depth + 1) row cs
 clique_duals ys depth row (present u v ∷ cs) = clique_duals ys (depth + 1) row cs
 clique_duals ys depth row (two s ∷ cs) = (depth, dual_at ys row) ∷ clique_duals ys (depth + 1) (row + 1) cs

@@ -1,7 +1,7 @@
 -- What the rows of a node's relaxation say, wherever their sets lie in memory.
 use Rattle.std.specs.Prelude.{ℕ, zero, suc, List, [], ◌∷◌, ◌++◌, length}
 use Rattle.tspdef.specs.Cuts.{Cut, sets_of, right_side}
-use Rattle.tspdef.specs.Paths.{Condition, absent, present, two, four}
+use Rattle.tspdef.specs.Paths.{Condition, fixed, absent, present, two, four}
 use Rattle.lpcheck.specs.Rows.{cities_of_each}
 use Rattle.lpcheck.specs.declared.row.Sense.{Sense}
 use Rattle.lpcheck.specs.declared.row.Sense.TheVariants.{Eq, AtLeast, AtMost}
@@ -37,6 +37,7 @@ four_shape s = record { sense = AtLeast; right = 4; sets = s ∷ [] }
 -- the rows of a path's conditions on sets, in the path's order
 abbrev pub clique_shapes : List Condition → List Shape
 clique_shapes [] = []
+clique_shapes (fixed u v ∷ cs) = clique_shapes cs
 clique_shapes (absent u v ∷ cs) = clique_shapes cs
 clique_shapes (present u v ∷ cs) = clique_shapes cs
 clique_shapes (two s ∷ cs) = two_shape s ∷ clique_shapes cs

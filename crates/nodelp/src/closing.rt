@@ -2,6 +2,7 @@
 ghost use Rattle.std.specs.Prelude.{◌≡◌, ◌≤◌, ◌+◌, [], ◌∷◌, ◌++◌, length, take, IfOk, OnOk};
 ghost use Rattle.std.specs.List.{AllByRecursion};
 ghost use Rattle.tspdef.specs.Cuts.{IsCut};
+ghost use Rattle.tspdef.specs.Paths.{branches};
 ghost use Rattle.tspdef.specs.Closings as closings;
 ghost use Rattle.branchx.specs.Cond.{condition_of, conditions_of};
 ghost use Rattle.nodelp.specs.Node.{Node};
@@ -73,7 +74,19 @@ fn add_clique_dual(
             duals.push((depth, dual_at(ys, row)))?;
             Ok(row + 1)
         }
-        Cond::Absent(_, _) | Cond::Present(_, _) => Ok(row),
+        Cond::Fixed(_, _) | Cond::Absent(_, _) | Cond::Present(_, _) => Ok(row),
+    }
+}
+
+/// The depth of the condition behind one at a depth: a fixed pair has none.
+fn depth_behind(cond: &Cond, depth: u32) -> u32
+    requires { depth ≤ 4194304 }
+    ensures is { result ≡ depth + length (branches (condition_of cond.now ∷ [])) }
+    ensures step { result ≤ depth + 1 }
+{
+    match cond {
+        Cond::Fixed(_, _) => depth,
+        Cond::Absent(_, _) | Cond::Present(_, _) | Cond::Two(_) | Cond::Four(_) => depth + 1,
     }
 }
 
@@ -93,7 +106,7 @@ fn clique_duals(
     let mut depth = 1;
     for cond in conditions {
         row = add_clique_dual(&mut duals, cond, ys, depth, row)?;
-        depth += 1;
+        depth = depth_behind(cond, depth);
     }
     Ok(duals)
 }

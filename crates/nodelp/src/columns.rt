@@ -38,7 +38,7 @@ fn add_condition(instance: &Instance, cond: &Cond, lp: &mut Lp) -> Result<(), Al
     ensures cols { OnOk result (lp.new.cols ≡ with_wanted instance.now (condition_of cond.now) lp.old.cols) }
 {
     match cond {
-        Cond::Present(u, v) => add(instance, *u, *v, true, lp),
+        Cond::Fixed(u, v) | Cond::Present(u, v) => add(instance, *u, *v, true, lp),
         Cond::Absent(_, _) | Cond::Two(_) | Cond::Four(_) => Ok(()),
     }
 }

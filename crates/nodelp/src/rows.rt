@@ -72,7 +72,7 @@ fn add_clique(alloc: Global, cond: &Cond, rows: &mut Vec<Row>) -> Result<(), All
     match cond {
         Cond::Two(set) => rows.push(row_of(alloc, Sense::AtMost, 2, set.copy(alloc)?)?)?,
         Cond::Four(set) => rows.push(row_of(alloc, Sense::AtLeast, 4, set.copy(alloc)?)?)?,
-        Cond::Absent(_, _) | Cond::Present(_, _) => {}
+        Cond::Fixed(_, _) | Cond::Absent(_, _) | Cond::Present(_, _) => {}
     }
     Ok(())
 }

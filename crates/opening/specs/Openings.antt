@@ -10,11 +10,11 @@ use Rattle.opening.specs.declared.Opening.{Opening}
 abbrev pub near_cities : ℕ → ℕ
 near_cities n = min 10 (n - 1)
 
--- the length of the nearest-neighbour walk from city 0
+-- the length of the nearest-neighbour walk, which holds the fixed pairs
 abbrev pub opening_length : Instance → ℕ
 opening_length i = length_in i (nearest_walk i)
 
--- a tour no longer than the walk that no exchange of two steps shortens where a replacement is near
+-- a tour of the instance no longer than the walk, that no exchange of two steps that are not fixed shortens where a replacement is near
 pub record IsOpeningTour (i : Instance) (tour : List ℕ) : Type 0 where
   pub is_tour : IsTourOf i tour
   pub no_longer : length_in i tour ≤ opening_length i

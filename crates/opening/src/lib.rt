@@ -23,10 +23,11 @@ pub struct Opening {
     pub tour: Tour,
 }
 
-/// The nearest-neighbour walk from city 0, improved with a kick for each city over the lists of the ten nearest cities, or
-/// of all others where there are fewer. The kicks are drawn from the seed: the same seed gives the same tour.
+/// The nearest-neighbour walk, improved with a kick for each city over the lists of the ten nearest cities, or of all others where
+/// there are fewer. The kicks are drawn from the seed: the same seed gives the same tour.
 ///
-/// The tour is no longer than the walk, and no exchange of two steps with a replacement in the near lists shortens it.
+/// The tour holds the fixed pairs, it is no longer than the walk, and no exchange of two steps that are not fixed, with a
+/// replacement in the near lists, shortens it.
 /// O(n^2) for the walk and the lists, and about O(n) for the search.
 pub fn find_opening(alloc: Global, instance: &Instance, seed: u64) -> Result<Opening, AllocError>
     ensures { IfOk result (IsOpening instance.now) }

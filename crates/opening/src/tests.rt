@@ -76,3 +76,18 @@ fn a_seed_chooses_the_tour(rt: HostRuntime) -> Result<(), Fail> {
     assert!(rt; length(&instance, &first.tour) < walk);
     Ok(())
 }
+
+#[test]
+fn a_fixed_diagonal_of_a_square_is_in_the_opening(rt: HostRuntime) -> Result<(), Fail> {
+    let alloc = rt.alloc();
+    let corners = [
+        Point::new(0, 0),
+        Point::new(0, 10),
+        Point::new(10, 10),
+        Point::new(10, 0),
+    ];
+    let square = of_points(alloc, &corners)?.fix(alloc, &[(0, 2)])?;
+    let found = find_opening(alloc, &square, 1)?;
+    assert_eq!(rt; length(&square, &found.tour), 48);
+    Ok(())
+}

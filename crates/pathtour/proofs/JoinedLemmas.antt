@@ -5,7 +5,7 @@ use Rattle.std.proofs.lemmas.Bool.{cond_both, or_left, or_right, eqb-true, eqb-f
 use Rattle.std.proofs.lemmas.Bool.Decides.{nat_tests}
 use Rattle.std.proofs.lemmas.List.{get_or-map, length-map}
 use Rattle.tspdef.specs.Tours.{joins}
-use Rattle.tspdef.specs.Paths.{Condition, absent, present, two, four, is_present, MayFollow, IsPath}
+use Rattle.tspdef.specs.Paths.{Condition, fixed, absent, present, two, four, is_present, MayFollow, IsPath}
 use Rattle.branchx.proofs.PathLemmas.{HasPair}
 use Rattle.pathtour.specs.declared.neighbours.Joined.{Joined}
 use Rattle.pathtour.specs.declared.neighbours.Joined.TheVariants.{Nothing, One, Two, Many}
@@ -73,23 +73,29 @@ no_end a b v w f g = grind (arith, nat_tests)
 present_more : (path : List Condition) (a b v w : ℕ) → is_present (path ++ present a b ∷ []) v w ≡ is_present path v w || joins v w (a, b)
 present_more path a b v w = is_present-append path (present a b ∷ []) v w ∙ ap (λ x. is_present path v w || x) (or_false (joins v w (a, b)))
 
+fixed_more : (path : List Condition) (a b v w : ℕ) → is_present (path ++ fixed a b ∷ []) v w ≡ is_present path v w || joins v w (a, b)
+fixed_more path a b v w = is_present-append path (fixed a b ∷ []) v w ∙ ap (λ x. is_present path v w || x) (or_false (joins v w (a, b)))
+
+joined_used : (path all : List Condition) (a b v : ℕ) (j : Joined) → a < b → is_present path a b ≡ false → ((w : ℕ) → is_present all v w ≡ is_present path v w || joins v w (a, b))
+    → IsJoined path v j → IsJoined all v (cond (eqb a v) (more j b) (cond (eqb b v) (more j a) j))
+joined_used path all a b v j low new now h =
+    cond_both (eqb a v) (more j b) (cond (eqb b v) (more j a) j) (IsJoined all v)
+    (λ e. let same = eqb-true a v e in
+    joined_one path all v b j (λ w. now w ∙ ap (λ x. is_present path v w || x) (low_end a b v w low same)) (subst (λ k. is_present path k b ≡ false) same new) h)
+    (λ e. cond_both (eqb b v) (more j a) j (IsJoined all v)
+    (λ f. let same = eqb-true b v f in
+    joined_one path all v a j (λ w. now w ∙ ap (λ x. is_present path v w || x) (high_end a b v w low same)) (subst (λ k. is_present path k a ≡ false) same (is_present-swap path b a ∙ new)) h)
+    (λ f. joined_same path all v j (λ w. now w ∙ ap (λ x. is_present path v w || x) (no_end a b v w (eqb-false a v e) (eqb-false b v f)) ∙ or_false (is_present path v w)) h))
+
 pub joined_more : (n : ℕ) (path : List Condition) (c : Condition) (v : ℕ) (j : Joined) → MayFollow n path c → IsJoined path v j → IsJoined (path ++ c ∷ []) v (added c v j)
 joined_more n path (absent a b) v j m h = joined_same path (path ++ absent a b ∷ []) v j (λ w. is_present-append path (absent a b ∷ []) v w ∙ or_false (is_present path v w)) h
 joined_more n path (two s) v j m h = joined_same path (path ++ two s ∷ []) v j (λ w. is_present-append path (two s ∷ []) v w ∙ or_false (is_present path v w)) h
 joined_more n path (four s) v j m h = joined_same path (path ++ four s ∷ []) v j (λ w. is_present-append path (four s ∷ []) v w ∙ or_false (is_present path v w)) h
-joined_more n path (present a b) v j m h =
-    let low = m.0.0 in
-    let new = not_used path a b m.1 in
-    let all = path ++ present a b ∷ [] in
-    cond_both (eqb a v) (more j b) (cond (eqb b v) (more j a) j) (IsJoined all v)
-    (λ e. let same = eqb-true a v e in
-    joined_one path all v b j (λ w. present_more path a b v w ∙ ap (λ x. is_present path v w || x) (low_end a b v w low same)) (subst (λ k. is_present path k b ≡ false) same new) h)
-    (λ e. cond_both (eqb b v) (more j a) j (IsJoined all v)
-    (λ f. let same = eqb-true b v f in
-    joined_one path all v a j (λ w. present_more path a b v w ∙ ap (λ x. is_present path v w || x) (high_end a b v w low same)) (subst (λ k. is_present path k a ≡ false) same (is_present-swap path b a ∙ new)) h)
-    (λ f. joined_same path all v j (λ w. present_more path a b v w ∙ ap (λ x. is_present path v w || x) (no_end a b v w (eqb-false a v e) (eqb-false b v f)) ∙ or_false (is_present path v w)) h))
+joined_more n path (fixed a b) v j m h = joined_used path (path ++ fixed a b ∷ []) a b v j m.0.0.0 (not_used path a b m.0.1) (fixed_more path a b v) h
+joined_more n path (present a b) v j m h = joined_used path (path ++ present a b ∷ []) a b v j m.0.0 (not_used path a b m.1) (present_more path a b v) h
 
 pub pair_below : (n : ℕ) (c : Condition) → HasPair n c → IsPairBelow n c
+pair_below n (fixed a b) h = h
 pair_below n (absent a b) h = h
 pair_below n (present a b) h = h
 pair_below n (two s) h = h

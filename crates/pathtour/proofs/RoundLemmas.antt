@@ -149,10 +149,10 @@ canonical_is_round n path pairs (a ∷ b ∷ cs) is near t can are =
 -- where no tour is a round, the used pairs are no tour
 pub none_used : (n : ℕ) (path : List Condition) (pairs : List (ℕ × ℕ)) → 3 ≤ n → IsPath n path → AreNeighbours n path pairs → ((tour : List ℕ) → IsTour n tour → IsRound pairs tour → ⊥) → IsUsedByNone n path
 none_used n path pairs many is near none tour t are =
-    let i : Instance = record { n = n; table = [] } in
-    let f = canonical_form_exists i tour many t in
-    let s = same_cycle_is_same_tour i tour f.0 t f.1.same in
-    none f.0 s.is_tour (canonical_is_round n path pairs f.0 is near s.is_tour f.1.canonical (λ u v l m. are u v l m ∙ sym (s.joined u v)))
+    let i : Instance = record { n = n; table = []; fixed = [] } in
+    let f = canonical_form_exists i tour many (record { is_tour = t; holds_fixed = tt }) in
+    let s = same_cycle_is_same_tour i tour f.0 (record { is_tour = t; holds_fixed = tt }) f.1.same in
+    none f.0 s.is_tour.is_tour (canonical_is_round n path pairs f.0 is near s.is_tour.is_tour f.1.canonical (λ u v l m. are u v l m ∙ sym (s.joined u v)))
 
 -- ---- a round is a canonical tour whose steps the used pairs are
 
@@ -289,9 +289,9 @@ two_from n path tour v (m ∷ c ∷ ds) many is are l t at =
 tour_two : (n : ℕ) (path : List Condition) (tour : List ℕ) → 3 ≤ n → IsPath n path → IsTour n tour → AreStepsOf n path tour → (v : ℕ) → v < n → (e : ℕ × ℕ) × AreTwo n path v e
 tour_two n path tour many is t are v l =
     let s = split_at tour v (tour_has n tour t v l) in
-    let i : Instance = record { n = n; table = [] } in
-    let turned = same_cycle_is_same_tour i tour (v ∷ (s.1 ++ s.0)) t (inl (s.0, v ∷ s.1, s.2, refl)) in
-    two_from n path tour v (s.1 ++ s.0) many is are l turned.is_tour (λ m ms e. around n tour s.0 v s.1 m ms t s.2 e)
+    let i : Instance = record { n = n; table = []; fixed = [] } in
+    let turned = same_cycle_is_same_tour i tour (v ∷ (s.1 ++ s.0)) (record { is_tour = t; holds_fixed = tt }) (inl (s.0, v ∷ s.1, s.2, refl)) in
+    two_from n path tour v (s.1 ++ s.0) many is are l turned.is_tour.is_tour (λ m ms e. around n tour s.0 v s.1 m ms t s.2 e)
 
 -- where some city lacks two neighbours, the used pairs are no tour
 pub lacking_used : (n : ℕ) (path : List Condition) → 3 ≤ n → IsPath n path → LacksTwo n path → IsUsedByNone n path

@@ -39,9 +39,9 @@ at_first v m ms w h =
 pub around : (n : ℕ) (tour front : List ℕ) (v : ℕ) (back : List ℕ) (m : ℕ) (ms : List ℕ) → IsTour n tour → tour ≡ front ++ v ∷ back → back ++ front ≡ m ∷ ms
     → (w : ℕ) → has_step (steps tour) v w ≡ eqb m w || eqb (last_city m ms) w
 around n tour front v back m ms t e f w =
-    let i : Instance = record { n = n; table = [] } in
-    let s = same_cycle_is_same_tour i tour (v ∷ (back ++ front)) t (inl (front, v ∷ back, e, refl)) in
-    let apart = s.is_tour.distinct.0 in
+    let i : Instance = record { n = n; table = []; fixed = [] } in
+    let s = same_cycle_is_same_tour i tour (v ∷ (back ++ front)) (record { is_tour = t; holds_fixed = tt }) (inl (front, v ∷ back, e, refl)) in
+    let apart = s.is_tour.is_tour.distinct.0 in
     let lone : has (m ∷ ms) v ≡ false = subst (λ (xs : List ℕ). has xs v ≡ false) f apart in
     let here : has_step (steps (v ∷ (back ++ front))) v w ≡ eqb m w || eqb (last_city m ms) w =
     subst (λ (xs : List ℕ). has_step (steps (v ∷ xs)) v w ≡ eqb m w || eqb (last_city m ms) w) (sym f) (at_first v m ms w lone) in
@@ -118,9 +118,9 @@ same_on n tour other t o same front a b [] [] e f l = refl
 same_on n tour other t o same front a b [] (d ∷ ds) e f l = absurd (omega arith)
 same_on n tour other t o same front a b (c ∷ cs) [] e f l = absurd (omega arith)
 same_on n tour other t o same front a b (c ∷ cs) (d ∷ ds) e f l =
-    let i : Instance = record { n = n; table = [] } in
+    let i : Instance = record { n = n; table = []; fixed = [] } in
     let before = front ++ a ∷ [] in
-    let turned = (same_cycle_is_same_tour i tour (b ∷ c ∷ (cs ++ before)) t (inl (before, b ∷ c ∷ cs, e, refl))).is_tour in
+    let turned = (same_cycle_is_same_tour i tour (b ∷ c ∷ (cs ++ before)) (record { is_tour = t; holds_fixed = tt }) (inl (before, b ∷ c ∷ cs, e, refl))).is_tour.is_tour in
     let lone_b = turned.distinct.0 in
     let lone_c = turned.distinct.1.0 in
     let nb : b ≡ c → ⊥ = λ q. (lacks c (cs ++ before) b lone_b).0 (sym q) in

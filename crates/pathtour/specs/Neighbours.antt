@@ -1,6 +1,6 @@
 -- The cities that the used pairs of a path join to each city.
 use Rattle.std.specs.Prelude.{◌≡◌, ◌≢◌, ℕ, ◌<◌, Bool, true, false, cond, ◌==◌, ◌||◌, List, length, slice_index_or}
-use Rattle.tspdef.specs.Paths.{Condition, absent, present, two, four, is_present, IsPair}
+use Rattle.tspdef.specs.Paths.{Condition, fixed, absent, present, two, four, is_present, IsPair}
 use Rattle.pathtour.specs.declared.neighbours.Joined.{Joined}
 use Rattle.pathtour.specs.declared.neighbours.Joined.TheVariants.{Nothing, One, Two, Many}
 
@@ -46,6 +46,7 @@ more Many w = Many
 
 -- what a condition adds at v
 abbrev pub added : Condition → ℕ → Joined → Joined
+added (fixed a b) v j = cond (a == v) (more j b) (cond (b == v) (more j a) j)
 added (absent a b) v j = j
 added (present a b) v j = cond (a == v) (more j b) (cond (b == v) (more j a) j)
 added (two s) v j = j
@@ -75,6 +76,7 @@ HasOther joined = (v : ℕ) × (v < length joined) × (is_two (joined_at joined 
 
 -- if the condition is on a pair, it is one of n cities, the lower city first
 abbrev pub IsPairBelow : ℕ → Condition → Type 0
+IsPairBelow n (fixed u v) = IsPair n u v
 IsPairBelow n (absent u v) = IsPair n u v
 IsPairBelow n (present u v) = IsPair n u v
 IsPairBelow n (two s) = Unit {0}

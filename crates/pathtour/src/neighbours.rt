@@ -70,7 +70,7 @@ fn join(joined: &mut [Joined], condition: &Cond)
     requires { IsPairBelow (length joined.old) (condition_of condition.now) }
     ensures { (v : ℕ) → v < length joined.old → joined_at joined.new v ≡ added (condition_of condition.now) v (joined_at joined.old v) }
 {
-    if let Cond::Present(u, v) = condition {
+    if let Cond::Fixed(u, v) | Cond::Present(u, v) = condition {
         joined[*u as usize] = joined[*u as usize].with(*v);
         joined[*v as usize] = joined[*v as usize].with(*u);
     }

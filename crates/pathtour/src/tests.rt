@@ -70,6 +70,18 @@ fn sets_and_unused_pairs_are_passed_over(rt: HostRuntime) -> Result<(), Fail> {
 }
 
 #[test]
+fn fixed_pairs_are_used(rt: HostRuntime) -> Result<(), Fail> {
+    let alloc = rt.alloc();
+    let mut path = Path::root(alloc, 4, &[(0, 3), (1, 2), (1, 3)])?;
+    assert!(rt; tour_of(alloc, &path)?.is_none());
+    assert!(rt; !decided(&path, 0, 2));
+    path.push(Cond::Present(0, 2))?;
+    let tour = tour_of(alloc, &path)?.ok_or("no tour")?;
+    assert_eq!(rt; tour.cities(), [0, 2, 1, 3].as_slice());
+    Ok(())
+}
+
+#[test]
 fn no_tour(rt: HostRuntime) -> Result<(), Fail> {
     let alloc = rt.alloc();
     let triangles = path_of(alloc, 6, &[(0, 1), (1, 2), (0, 2), (3, 4), (4, 5), (3, 5)])?;

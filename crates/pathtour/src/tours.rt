@@ -1,7 +1,7 @@
 //! The tour that the used pairs of a path are.
 ghost use Rattle.std.specs.Prelude.{◌≤◌, IfOk, IfSome, IfNone};
 ghost use Rattle.pathtour.specs.UsedTour.{IsUsedTour, IsUsedByNone};
-ghost use Rattle.pathtour.specs.Laws.{UsedToursAreOfOneLength, UsedTourIsOne};
+ghost use Rattle.pathtour.specs.Laws.{UsedToursAreOfOneLength, UsedTourIsOne, UsedToursHoldFixedPairs};
 
 use crate::neighbours::neighbours_of;
 use crate::rounds::round_along;
@@ -28,8 +28,10 @@ pub fn tour_of(alloc: Global, path: &Path) -> Result<Option<Tour>, AllocError>
     round_along(alloc, n, &pairs)
 }
 
-/// All tours whose steps are the pairs that a path uses are of one length, and one of them alone is canonical.
+/// All tours whose steps are the pairs that a path uses are of one length, and one of them alone is canonical. Where the path
+/// begins with the fixed pairs of an instance, they are tours of the instance.
 pub fn used_pairs_are_one_tour()
     ensures long { UsedToursAreOfOneLength }
     ensures one { UsedTourIsOne }
+    ensures fixed { UsedToursHoldFixedPairs }
 {}

@@ -1,9 +1,11 @@
 pub mod Outside
 pub mod Buffers
 pub mod Calls
+pub mod Crash
 pub mod Desk
 pub mod FileDesk
 pub mod FileSlots
+pub mod History
 pub mod MemDesk
 pub mod MemSlots
 pub mod Slots

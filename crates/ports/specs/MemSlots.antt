@@ -1,19 +1,29 @@
 -- Slots in memory as their callers see them.
-use Rattle.std.specs.Prelude.{ℕ, ◌||◌, Bool, nat_lt, List, length, ◌≡◌}
+use Rattle.std.specs.Prelude.{ℕ, ◌||◌, Bool, nat_lt, List, length, reverse, ◌≡◌}
 use Rattle.ports.specs.Slots.{SlotsTold, slot_of}
+use Rattle.ports.specs.Crash.{Moment}
+use Rattle.ports.specs.History.{History, first_history, history}
 use Rattle.ports.specs.Buffers.{rest_from, path_if}
-use Rattle.ports.specs.Records.{unsynced_of, is_bad_call, write_room}
+use Rattle.ports.specs.Records.{is_bad_call, write_room}
 use Rattle.ports.specs.declared.room.Room.{Room}
 use Rattle.ports.specs.declared.record.SlotCall.{SlotCall}
 use Rattle.ports.specs.declared.record.SlotCall.TheVariants as kind
 use Rattle.ports.specs.declared.record.SlotEntry.{SlotEntry}
 use Rattle.ports.specs.declared.memory_slots.MemSlots.{MemSlots}
 
+-- what they hold, and the moments on the way
+abbrev pub history_of : MemSlots → History
+history_of s = history (first_history s.first0.items s.first1.items) (reverse s.entries.items) s.written.items
+
+-- the moments before each write and sync so far, the last first
+abbrev pub past_of : MemSlots → List Moment
+past_of s = (history_of s).past
+
 -- what they tell
 abbrev pub told_of : MemSlots → SlotsTold
 told_of s = record {
-  slot0 = record { bytes = s.slot0.items; unsynced = unsynced_of 0 s.entries.items };
-  slot1 = record { bytes = s.slot1.items; unsynced = unsynced_of 1 s.entries.items };
+  slot0 = (history_of s).now.slot0;
+  slot1 = (history_of s).now.slot1;
   path = path_if s.is_bound (rest_from s.path_at s.paths.items);
   binds = s.binds;
 }

@@ -1,7 +1,6 @@
 -- The record of the calls of slots in memory.
-use Rattle.std.specs.Prelude.{ℕ, ◌+◌, ◌-◌, ◌==◌, ◌||◌, ◌&&◌, length, Bool, true, false, List, [], ◌∷◌, ◌++◌, fold, count_by, if◌then◌else◌}
+use Rattle.std.specs.Prelude.{ℕ, ◌+◌, ◌-◌, ◌==◌, ◌||◌, ◌&&◌, length, Bool, true, false, List, [], ◌∷◌, ◌++◌, count_by, if◌then◌else◌}
 use Rattle.std.specs.List.{list_any}
-use Rattle.ports.specs.Slots.{Range}
 use Rattle.ports.specs.declared.record.SlotCall.{SlotCall}
 use Rattle.ports.specs.declared.record.SlotCall.TheVariants as kind
 use Rattle.ports.specs.declared.record.SlotEntry.{SlotEntry}
@@ -34,18 +33,3 @@ noted room entries entry = if room == 0 then entries else entries ++ entry ∷ [
 -- the room that a write takes: its bytes, and those between the slot's end and the place, if it has any bytes
 abbrev pub write_room : ℕ → ℕ → ℕ → ℕ
 write_room pos len end = if len == 0 then 0 else pos - end + len
-
--- the ranges of a slot that are not synced, after one call more
-abbrev pub after_call : SlotCall → Bool → Range → List Range → List Range
-after_call kind.Write failed range ranges = ranges ++ range ∷ []
-after_call kind.Sync failed range ranges = if failed then ranges else []
-after_call call failed range ranges = ranges
-
-abbrev pub after_entry : ℕ → List Range → SlotEntry → List Range
-after_entry slot ranges entry = if entry.slot == slot
-    then after_call entry.call entry.failed (record { start = entry.pos; size = entry.len }) ranges
-    else ranges
-
--- the ranges of a slot that were written since its last sync that succeeded
-abbrev pub unsynced_of : ℕ → List SlotEntry → List Range
-unsynced_of slot entries = fold (after_entry slot) [] entries

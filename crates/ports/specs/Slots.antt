@@ -10,10 +10,12 @@ pub record Range : Type 0 where
 abbrev pub IsOutside : ℕ → Range → Type 0
 IsOutside k range = (k < range.start) ⊎ (range.start + range.size ≤ k)
 
--- what one slot tells: the bytes that a read gives, and the ranges written since its last sync that succeeded
+-- what one slot tells: the bytes that a read gives, the ranges written since its last sync that succeeded, and how many
+-- bytes it had then
 pub record SlotTold : Type 0 where
   pub bytes : List ℕ
   pub unsynced : List Range
+  pub synced : ℕ
 
 -- what slots tell: the two slots, the path last bound, and how often one was bound
 pub record SlotsTold : Type 0 where
@@ -45,11 +47,16 @@ abbrev pub after_write : ℕ → List ℕ → SlotTold → SlotTold
 after_write pos bytes s = record {
   bytes = put_at pos bytes s.bytes;
   unsynced = s.unsynced ++ (record { start = pos; size = length bytes }) ∷ [];
+  synced = s.synced;
 }
+
+-- a slot of which a crash leaves just these bytes
+abbrev pub kept_slot : List ℕ → SlotTold
+kept_slot bytes = record { bytes = bytes; unsynced = []; synced = length bytes }
 
 -- a slot after a sync
 abbrev pub after_sync : SlotTold → SlotTold
-after_sync s = record { bytes = s.bytes; unsynced = [] }
+after_sync s = kept_slot s.bytes
 
 -- a slot after a write that failed: any bytes in the range, as far as it reaches; elsewhere as before, and zeros past the old end
 pub record IsTorn (range : Range) (old new : SlotTold) : Type 0 where
@@ -57,12 +64,14 @@ pub record IsTorn (range : Range) (old new : SlotTold) : Type 0 where
   pub no_longer : length new.bytes ≤ max (length old.bytes) (range.start + range.size)
   pub outside : (k : ℕ) → k < length new.bytes → IsOutside k range → slice_index new.bytes k ≡ slice_index old.bytes k
   pub ranges : (new.unsynced ≡ old.unsynced) ⊎ (new.unsynced ≡ old.unsynced ++ range ∷ [])
+  pub synced : new.synced ≡ old.synced
 
 -- a slot after a sync that failed: any bytes in the ranges that were not synced
 pub record IsScrambled (old new : SlotTold) : Type 0 where
   pub same_length : length new.bytes ≡ length old.bytes
   pub outside : (k : ℕ) → k < length new.bytes → All (IsOutside k) old.unsynced → slice_index new.bytes k ≡ slice_index old.bytes k
   pub ranges : new.unsynced ≡ old.unsynced
+  pub synced : new.synced ≡ old.synced
 
 -- one slot changed so, and nothing else
 pub record ChangesSlot (slot : ℕ) (R : SlotTold → SlotTold → Type 0) (old new : SlotsTold) : Type 0 where

@@ -1,5 +1,5 @@
 //! The real slots: two files.
-ghost use Rattle.std.specs.Prelude.{◌≡◌, ℕ, ◌-◌, ◌<◌, ◌≤◌, ◌↔◌, ◌⊎◌, length, is_err, IsErr, None, IfOk};
+ghost use Rattle.std.specs.Prelude.{◌≡◌, ℕ, ◌-◌, ◌<◌, ◌≤◌, ◌↔◌, ◌⊎◌, [], length, is_err, IsErr, None, IfOk};
 ghost use Rattle.ports.specs.Calls.{faults_after};
 ghost use Rattle.ports.specs.Outside.{Cause};
 
@@ -50,6 +50,8 @@ impl<R: Files + Drop> Slots for FileSlots<R> {
     ghost use Rattle.ports.specs.FileSlots.{faults_of};
 
     ghost told = { λ _. None };
+
+    ghost past = { λ _. [] };
 
     ghost faults = { faults_of };
 

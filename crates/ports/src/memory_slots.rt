@@ -1,10 +1,12 @@
 //! Slots in memory, with calls that fail on demand and a record of all calls.
-ghost use Rattle.std.specs.Prelude.{◌≡◌, ℕ, ◌+◌, ◌-◌, ◌^◌, ◌<◌, ◌≤◌, ◌↔◌, ◌++◌, [], ◌∷◌, min, take, drop, length, is_err, if◌then◌else◌, Some, Option, IfOk, OnOk, OnErr, IsErr, vec_len, vec_capacity};
+ghost use Rattle.std.specs.Prelude.{◌≡◌, ℕ, ◌+◌, ◌-◌, ◌^◌, ◌<◌, ◌≤◌, ◌↔◌, ◌++◌, [], ◌∷◌, min, take, drop, length, reverse, is_err, if◌then◌else◌, Some, Option, IfOk, OnOk, OnErr, IsErr, vec_len, vec_capacity};
 ghost use Rattle.std.specs.Option.{option_map};
 ghost use Rattle.ports.specs.Outside.{Cause};
 ghost use Rattle.ports.specs.Calls.{faults_after};
 ghost use Rattle.ports.specs.Records.{noted, write_room};
-ghost use Rattle.ports.specs.Slots.{slot_of, with_slot, with_path, after_write, after_sync, IsTorn, IsScrambled, ChangesSlot, IsPastEnd};
+ghost use Rattle.ports.specs.Crash.{Passes};
+ghost use Rattle.ports.specs.History.{first_history, history};
+ghost use Rattle.ports.specs.Slots.{kept_slot, slot_of, with_slot, with_path, after_write, after_sync, IsTorn, IsScrambled, ChangesSlot, IsPastEnd};
 
 use crate::buffers::{append, copy_part, put};
 use crate::record::{admits, note};
@@ -13,9 +15,12 @@ use std::alloc::{AllocError, Global};
 
 /// Slots over byte lists. A call fails exactly where the list names it, by its number among the calls of its
 /// kind or among all, or where the room that is left is too small: each call takes one of the calls that there
-/// is room for, and is put on record there. A failed call changes no byte. No call allocates.
+/// is room for, and is put on record there. A failed call changes no byte. No call allocates. What they were
+/// made with is kept beside the record, so that the two say what a crash might have left at each moment.
 #[derive(Drop)]
 pub struct MemSlots {
+    first0: Vec<u8>,
+    first1: Vec<u8>,
     slot0: Vec<u8>,
     slot1: Vec<u8>,
     bad: Vec<(SlotCall, u64)>,
@@ -34,6 +39,8 @@ pub struct MemSlots {
     ghost entries_fit: { vec_len entries + room.calls ≤ vec_capacity entries },
     ghost countable: { binds + room.calls < 2 ^ 64 },
     ghost path_within: { path_at ≤ vec_len paths },
+    ghost slot0_told: { (history (first_history first0.items first1.items) (reverse entries.items) written.items).now.slot0.bytes ≡ slot0.items },
+    ghost slot1_told: { (history (first_history first0.items first1.items) (reverse entries.items) written.items).now.slot1.bytes ≡ slot1.items },
 }
 
 // A list of these bytes, with room for more.
@@ -57,7 +64,7 @@ fn write_room(pos: u64, len: usize, end: usize) -> u128
 }
 
 impl MemSlots {
-    ghost use Rattle.ports.specs.MemSlots.{told_of, bad_of, entries_of, written_of, paths_of, room_of, faults_of};
+    ghost use Rattle.ports.specs.MemSlots.{told_of, past_of, bad_of, entries_of, written_of, paths_of, room_of, faults_of};
 
     /// Slots with these bytes, where the calls that `bad` names fail; calls are numbered from 1. All the memory
     /// is taken here.
@@ -69,11 +76,12 @@ impl MemSlots {
         room: Room,
     ) -> Result<MemSlots, AllocError>
         ensures told { IfOk result (λ slots. told_of slots ≡ record {
-          slot0 = record { bytes = slot0.now; unsynced = [] };
-          slot1 = record { bytes = slot1.now; unsynced = [] };
+          slot0 = kept_slot slot0.now;
+          slot1 = kept_slot slot1.now;
           path = Option.None;
           binds = 0;
         }) }
+        ensures past { IfOk result (λ slots. past_of slots ≡ []) }
         ensures bad { IfOk result (λ slots. bad_of slots ≡ bad.now) }
         ensures entries { IfOk result (λ slots. entries_of slots ≡ []) }
         ensures written { IfOk result (λ slots. written_of slots ≡ []) }
@@ -82,6 +90,8 @@ impl MemSlots {
         ensures faults { IfOk result (λ slots. faults_of slots ≡ 0) }
     {
         Ok(MemSlots {
+            first0: Vec::from_slice(alloc, slot0)?,
+            first1: Vec::from_slice(alloc, slot1)?,
             slot0: with_room(alloc, slot0, room.bytes)?,
             slot1: with_room(alloc, slot1, room.bytes)?,
             bad: Vec::from_slice(alloc, bad)?,
@@ -160,15 +170,18 @@ impl MemSlots {
 
 impl Slots for MemSlots {
     ghost use Rattle.std.specs.Prelude.{Some};
-    ghost use Rattle.ports.specs.MemSlots.{told_of, bad_of, entries_of, written_of, paths_of, room_of, faults_of, call_fails, bind_fails, write_fails, room_for, IsUnmoved};
+    ghost use Rattle.ports.specs.MemSlots.{told_of, past_of, bad_of, entries_of, written_of, paths_of, room_of, faults_of, call_fails, bind_fails, write_fails, room_for, IsUnmoved};
 
     ghost told = { λ slots. Some (told_of slots) };
+
+    ghost past = { past_of };
 
     ghost faults = { faults_of };
 
     fn bind(&mut self, path: &str) -> Result<(), Failed>
         ensures bound { OnOk result (told_of self.new ≡ with_path path.now (told_of self.old)) }
         ensures err { OnErr result (told_of self.new ≡ told_of self.old) }
+        ensures past { past_of self.new ≡ past_of self.old }
         ensures cause { Cause (IsErr result) (faults_of self.old) (faults_of self.new) }
 
         // Exactly which call fails, and what is kept of it.
@@ -222,6 +235,7 @@ impl Slots for MemSlots {
         ensures bytes { IfOk result (λ k. take k buf.new ≡ take k (drop pos (slot_of slot (told_of self.old)).bytes)) }
         ensures end { IfOk result (λ k. 0 < length buf.old → (k ≡ 0) ↔ IsPastEnd slot pos (told_of self.old)) }
         ensures told { told_of self.new ≡ told_of self.old }
+        ensures past { past_of self.new ≡ past_of self.old }
         ensures cause { Cause (IsErr result) (faults_of self.old) (faults_of self.new) }
 
         // Exactly which call fails, how much is read, and what is kept of it.
@@ -267,6 +281,7 @@ impl Slots for MemSlots {
         requires { slot < 2 }
         ensures written { OnOk result (told_of self.new ≡ with_slot slot (after_write pos bytes.now (slot_of slot (told_of self.old))) (told_of self.old)) }
         ensures torn { OnErr result (ChangesSlot slot (IsTorn (record { start = pos; size = length bytes.now })) (told_of self.old) (told_of self.new)) }
+        ensures past { Passes (told_of self.old) (told_of self.new) (past_of self.old) (past_of self.new) }
         ensures cause { Cause (IsErr result) (faults_of self.old) (faults_of self.new) }
 
         // Exactly which call fails, and what is kept of it.
@@ -322,6 +337,7 @@ impl Slots for MemSlots {
         requires { slot < 2 }
         ensures synced { OnOk result (told_of self.new ≡ with_slot slot (after_sync (slot_of slot (told_of self.old))) (told_of self.old)) }
         ensures scrambled { OnErr result (ChangesSlot slot IsScrambled (told_of self.old) (told_of self.new)) }
+        ensures past { Passes (told_of self.old) (told_of self.new) (past_of self.old) (past_of self.new) }
         ensures cause { Cause (IsErr result) (faults_of self.old) (faults_of self.new) }
 
         // Exactly which call fails, and what is kept of it.

@@ -6,7 +6,7 @@ use Rattle.std.proofs.lemmas.Bool.{or_parts}
 use Rattle.std.proofs.lemmas.Bool.Decides.{nat_tests}
 use Rattle.std.proofs.lemmas.List.{append-nil, append_assoc}
 use Rattle.tspdef.specs.Tours.{joins}
-use Rattle.tspdef.specs.Paths.{Condition, absent, present, two, four, is_absent, is_present, is_decided, MayFollow, ContinuesPath, IsPath}
+use Rattle.tspdef.specs.Paths.{Condition, fixed, absent, present, two, four, is_absent, is_present, is_decided, IsPair, MayFollow, ContinuesPath, IsPath}
 use Rattle.tspdef.specs.Sums.{sum_pairs}
 use Rattle.tspdef.specs.Bounds.{pair_term, reduced_cost}
 use Rattle.tspdef.proofs.SumLemmas.{sum_pairs-same, sum_pairs-add, sum_pairs-at}
@@ -42,12 +42,14 @@ or-false false = refl
 is_absent-append : (path more : List Condition) (u v : ℕ) → is_absent (path ++ more) u v ≡ is_absent path u v || is_absent more u v
 is_absent-append [] more u v = refl
 is_absent-append (absent a b ∷ path) more u v = ap (λ x. joins u v (a, b) || x) (is_absent-append path more u v) ∙ sym (or-assoc (joins u v (a, b)) (is_absent path u v) (is_absent more u v))
+is_absent-append (fixed a b ∷ path) more u v = is_absent-append path more u v
 is_absent-append (present a b ∷ path) more u v = is_absent-append path more u v
 is_absent-append (two s ∷ path) more u v = is_absent-append path more u v
 is_absent-append (four s ∷ path) more u v = is_absent-append path more u v
 
 pub is_present-append : (path more : List Condition) (u v : ℕ) → is_present (path ++ more) u v ≡ is_present path u v || is_present more u v
 is_present-append [] more u v = refl
+is_present-append (fixed a b ∷ path) more u v = ap (λ x. joins u v (a, b) || x) (is_present-append path more u v) ∙ sym (or-assoc (joins u v (a, b)) (is_present path u v) (is_present more u v))
 is_present-append (present a b ∷ path) more u v = ap (λ x. joins u v (a, b) || x) (is_present-append path more u v) ∙ sym (or-assoc (joins u v (a, b)) (is_present path u v) (is_present more u v))
 is_present-append (absent a b ∷ path) more u v = is_present-append path more u v
 is_present-append (two s ∷ path) more u v = is_present-append path more u v
@@ -59,12 +61,14 @@ joins_swap a b u v = grind (arith, nat_tests)
 pub is_absent-swap : (path : List Condition) (u v : ℕ) → is_absent path u v ≡ is_absent path v u
 is_absent-swap [] u v = refl
 is_absent-swap (absent a b ∷ path) u v = let ih = is_absent-swap path u v in let j = joins_swap a b u v in cc
+is_absent-swap (fixed a b ∷ path) u v = is_absent-swap path u v
 is_absent-swap (present a b ∷ path) u v = is_absent-swap path u v
 is_absent-swap (two s ∷ path) u v = is_absent-swap path u v
 is_absent-swap (four s ∷ path) u v = is_absent-swap path u v
 
 pub is_present-swap : (path : List Condition) (u v : ℕ) → is_present path u v ≡ is_present path v u
 is_present-swap [] u v = refl
+is_present-swap (fixed a b ∷ path) u v = let ih = is_present-swap path u v in let j = joins_swap a b u v in cc
 is_present-swap (present a b ∷ path) u v = let ih = is_present-swap path u v in let j = joins_swap a b u v in cc
 is_present-swap (absent a b ∷ path) u v = is_present-swap path u v
 is_present-swap (two s ∷ path) u v = is_present-swap path u v
@@ -114,6 +118,19 @@ at_pair f a b n h l =
     let one = sum_pairs-at g (λ u v. let e : min u v ≡ min v u = omega arith in let k : max u v ≡ max v u = omega arith in cc) a b n (omega arith) (omega arith) l in
     same ∙ one ∙ sym (low a b h)
 
+-- what one more used pair changes in the sum over all pairs
+terms_used : (n : ℕ) (r : ℕ → ℕ → ℤ) (path all : List Condition) (a b : ℕ) → IsPair n a b × (is_decided path a b ≡ false)
+    → ((u v : ℕ) → is_absent all u v ≡ is_absent path u v || false) → ((u v : ℕ) → is_present all u v ≡ is_present path u v || (joins u v (a, b) || false))
+    → sum_pairs (pair_term all r) n ≡ sum_pairs (pair_term path r) n +ℤ (r a b -ℤ int_min (pos 0) (r a b))
+terms_used n r path all a b h absents presents =
+    let d : ℕ → ℕ → ℤ = λ u v. r u v -ℤ int_min (pos 0) (r u v) in
+    let same = sum_pairs-same (pair_term all r) (λ u v. pair_term path r u v +ℤ cond (joins u v (a, b)) (d u v) (pos 0)) n (λ u v q l.
+    rw (absents u v, presents u v)
+    (term_present (is_present path u v) (is_absent path u v) (joins u v (a, b)) (r u v) (λ j. undecided_at path a b u v j h.1))) in
+    let add = sum_pairs-add (pair_term path r) (λ u v. cond (joins u v (a, b)) (d u v) (pos 0)) n in
+    let one = at_pair d a b n h.0.0 h.0.1 in
+    omega (arith, ints)
+
 -- what one more condition changes in the sum over all pairs
 pub terms_more : (n : ℕ) (r : ℕ → ℕ → ℤ) (path : List Condition) (c : Condition) → MayFollow n path c
     → sum_pairs (pair_term (path ++ c ∷ []) r) n ≡ sum_pairs (pair_term path r) n +ℤ change_of r c
@@ -125,14 +142,8 @@ terms_more n r path (absent a b) h =
     let add = sum_pairs-add (pair_term path r) (λ u v. cond (joins u v (a, b)) (d u v) (pos 0)) n in
     let one = at_pair d a b n h.0.0 h.0.1 in
     omega (arith, ints)
-terms_more n r path (present a b) h =
-    let d : ℕ → ℕ → ℤ = λ u v. r u v -ℤ int_min (pos 0) (r u v) in
-    let same = sum_pairs-same (pair_term (path ++ present a b ∷ []) r) (λ u v. pair_term path r u v +ℤ cond (joins u v (a, b)) (d u v) (pos 0)) n (λ u v q l.
-    rw (is_absent-append path (present a b ∷ []) u v, is_present-append path (present a b ∷ []) u v)
-    (term_present (is_present path u v) (is_absent path u v) (joins u v (a, b)) (r u v) (λ j. undecided_at path a b u v j h.1))) in
-    let add = sum_pairs-add (pair_term path r) (λ u v. cond (joins u v (a, b)) (d u v) (pos 0)) n in
-    let one = at_pair d a b n h.0.0 h.0.1 in
-    omega (arith, ints)
+terms_more n r path (fixed a b) h = terms_used n r path (path ++ fixed a b ∷ []) a b h.0 (λ u v. is_absent-append path (fixed a b ∷ []) u v) (λ u v. is_present-append path (fixed a b ∷ []) u v)
+terms_more n r path (present a b) h = terms_used n r path (path ++ present a b ∷ []) a b h (λ u v. is_absent-append path (present a b ∷ []) u v) (λ u v. is_present-append path (present a b ∷ []) u v)
 terms_more n r path (two s) h =
     sum_pairs-same (pair_term (path ++ two s ∷ []) r) (pair_term path r) n (λ u v q l.
     rw (is_absent-append path (two s ∷ []) u v, is_present-append path (two s ∷ []) u v)
@@ -143,6 +154,7 @@ terms_more n r path (four s) h =
     (rw (or-false (is_absent path u v), or-false (is_present path u v)) refl)) ∙ omega (arith, ints)
 
 pub pair_follows : (n : ℕ) (path : List Condition) (c : Condition) → MayFollow n path c → IsPairBelow n c
+pair_follows n path (fixed a b) h = h.0.0
 pair_follows n path (absent a b) h = h.0
 pair_follows n path (present a b) h = h.0
 pair_follows n path (two s) h = tt

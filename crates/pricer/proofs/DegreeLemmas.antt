@@ -6,7 +6,7 @@ use Rattle.std.proofs.lemmas.Bool.Decides.{nat_tests}
 use Rattle.std.proofs.lemmas.List.{map_more, take-map}
 use Rattle.tspdef.specs.Sets.{has, RisesFrom, IsSet}
 use Rattle.tspdef.specs.Tours.{joins}
-use Rattle.tspdef.specs.Paths.{Condition, absent, present, two, four, is_present, MayFollow, IsPath}
+use Rattle.tspdef.specs.Paths.{Condition, fixed, absent, present, two, four, is_present, is_decided, IsPair, MayFollow, IsPath}
 use Rattle.tspdef.specs.Closings.{Closing}
 use Rattle.tspdef.specs.Rays.{degree, IsClosedUnder, IsReached, IsRay, zero_closing}
 use Rattle.tspdef.proofs.SumLemmas.{sum_pairs-same, sum_pairs-add, sum_pairs-zero}
@@ -29,16 +29,22 @@ as_number : (b : Bool) → cond b (pos 1) (pos 0) ≡ pos (cond b 1 0)
 as_number true = refl
 as_number false = refl
 
--- what one more condition adds to the degree of a city
-pub degree_more : (n : ℕ) (path : List Condition) (c : Condition) (v : ℕ) → MayFollow n path c → degree n (path ++ c ∷ []) v ≡ degree n path v +ℤ pos (ends_at c v)
-degree_more n path (present a b) v h =
+-- what one more used pair adds to the degree of a city
+degree_used : (n : ℕ) (path all : List Condition) (a b v : ℕ) → IsPair n a b × (is_decided path a b ≡ false)
+    → ((u w : ℕ) → is_present all u w ≡ is_present path u w || (joins u w (a, b) || false)) → degree n all v ≡ degree n path v +ℤ pos (cond (eqb a v || eqb b v) 1 0)
+degree_used n path all a b v h used =
     let d : ℕ → ℕ → ℤ = λ u w. cond (eqb u v || eqb w v) (pos 1) (pos 0) in
-    let same = sum_pairs-same (λ u w. cond (is_present (path ++ present a b ∷ []) u w && (eqb u v || eqb w v)) (pos 1) (pos 0)) (λ u w. cond (is_present path u w && (eqb u v || eqb w v)) (pos 1) (pos 0) +ℤ cond (joins u w (a, b)) (d u w) (pos 0)) n
-    (λ u w q l. rw (is_present-append path (present a b ∷ []) u w) (one_more (is_present path u w) (joins u w (a, b)) (eqb u v || eqb w v) (λ j. (undecided_at path a b u w j h.1).1))) in
+    let same = sum_pairs-same (λ u w. cond (is_present all u w && (eqb u v || eqb w v)) (pos 1) (pos 0)) (λ u w. cond (is_present path u w && (eqb u v || eqb w v)) (pos 1) (pos 0) +ℤ cond (joins u w (a, b)) (d u w) (pos 0)) n
+    (λ u w q l. rw (used u w) (one_more (is_present path u w) (joins u w (a, b)) (eqb u v || eqb w v) (λ j. (undecided_at path a b u w j h.1).1))) in
     let add = sum_pairs-add (λ u w. cond (is_present path u w && (eqb u v || eqb w v)) (pos 1) (pos 0)) (λ u w. cond (joins u w (a, b)) (d u w) (pos 0)) n in
     let one = at_pair d a b n h.0.0 h.0.1 in
     let number = as_number (eqb a v || eqb b v) in
     omega (arith, ints)
+
+-- what one more condition adds to the degree of a city
+pub degree_more : (n : ℕ) (path : List Condition) (c : Condition) (v : ℕ) → MayFollow n path c → degree n (path ++ c ∷ []) v ≡ degree n path v +ℤ pos (ends_at c v)
+degree_more n path (fixed a b) v h = degree_used n path (path ++ fixed a b ∷ []) a b v h.0 (λ u w. is_present-append path (fixed a b ∷ []) u w)
+degree_more n path (present a b) v h = degree_used n path (path ++ present a b ∷ []) a b v h (λ u w. is_present-append path (present a b ∷ []) u w)
 degree_more n path (absent a b) v h =
     sum_pairs-same (λ u w. cond (is_present (path ++ absent a b ∷ []) u w && (eqb u v || eqb w v)) (pos 1) (pos 0)) (λ u w. cond (is_present path u w && (eqb u v || eqb w v)) (pos 1) (pos 0)) n
     (λ u w q l. rw (is_present-append path (absent a b ∷ []) u w) (rw (or-false (is_present path u w)) refl)) ∙ omega (arith, ints)
@@ -60,12 +66,14 @@ joins_own a b = grind (arith, nat_tests)
 
 -- no pair is used by the condition
 abbrev pub IsNoUse : Condition → Type 0
+IsNoUse (fixed a b) = ⊥
 IsNoUse (absent a b) = Unit {0}
 IsNoUse (present a b) = ⊥
 IsNoUse (two s) = Unit {0}
 IsNoUse (four s) = Unit {0}
 
 no_use : (path : List Condition) (c : Condition) (u v : ℕ) → IsNoUse c → is_present (path ++ c ∷ []) u v ≡ is_present path u v
+no_use path (fixed a b) u v h = absurd h
 no_use path (absent a b) u v h = is_present-append path (absent a b ∷ []) u v ∙ or-false (is_present path u v)
 no_use path (present a b) u v h = absurd h
 no_use path (two s) u v h = is_present-append path (two s ∷ []) u v ∙ or-false (is_present path u v)
@@ -89,10 +97,10 @@ split_label : (x y p q : ℕ) → cond (eqb x p) q x ≡ cond (eqb y p) q y → 
 split_label x y p q e = grind (arith, nat_tests)
 
 -- a condition that uses a pair makes the labels of its cities one
-pub labels_merged : (n : ℕ) (path : List Condition) (a b : ℕ) (labels new : List ℕ) → a < b → b < n
+labels_merged : (n : ℕ) (path : List Condition) (c : Condition) (a b : ℕ) (labels new : List ℕ) → ((u v : ℕ) → is_present (c ∷ []) u v ≡ joins u v (a, b) || false) → a < b → b < n
     → ((v : ℕ) → v < n → slice_index new v ≡ relabelled labels (slice_index labels a) (slice_index labels b) v)
-    → AreLabels n path labels → AreLabels n (path ++ present a b ∷ []) new
-labels_merged n path a b labels new ab bn each is =
+    → AreLabels n path labels → AreLabels n (path ++ c ∷ []) new
+labels_merged n path c a b labels new used ab bn each is =
     let la = slice_index labels a in
     let lb = slice_index labels b in
     record {
@@ -102,11 +110,11 @@ labels_merged n path a b labels new ab bn each is =
           (λ e. let x = e.0 in let y = e.1 in subst (λ k. relabelled labels la lb k ≡ relabelled labels la lb v) x (subst (λ k. relabelled labels la lb a ≡ relabelled labels la lb k) y (merge_ends la lb)))
           (λ e. let x = e.0 in let y = e.1 in absurd (omega arith))
           (joins_is a b u v (⊎_elim (λ t. t) (λ f. cc) (or_cases (joins u v (a, b)) false j))))
-          (or_cases (is_present path u v) (joins u v (a, b) || false) (sym (is_present-append path (present a b ∷ []) u v) ∙ p))
+          (or_cases (is_present path u v) (joins u v (a, b) || false) (sym (is_present-append path (c ∷ []) u v ∙ ap (λ x. is_present path u v || x) (used u v)) ∙ p))
           ∙ sym (each v m);
       least = λ t closed u v lu lv e.
-          let before = closed_front n path (present a b ∷ []) t closed in
-          let ends : has t a ≡ has t b = closed a b ab bn (is_present-append path (present a b ∷ []) a b ∙ or_right _ _ (ap (λ x. x || false) (joins_own a b))) in
+          let before = closed_front n path (c ∷ []) t closed in
+          let ends : has t a ≡ has t b = closed a b ab bn (is_present-append path (c ∷ []) a b ∙ ap (λ x. is_present path a b || x) (used a b) ∙ or_right _ _ (ap (λ x. x || false) (joins_own a b))) in
           ⊎_elim
           (λ same. is.least t before u v lu lv same)
           (λ other. ⊎_elim
@@ -132,6 +140,7 @@ degree_none n v = sum_pairs-zero n
 
 ends_most : (c : Condition) (v : ℕ) → ends_at c v ≤ 1
 ends_most (present a b) v = cond_both (eqb a v || eqb b v) 1 0 (λ (k : ℕ). k ≤ 1) (λ _. omega arith) (λ _. omega arith)
+ends_most (fixed a b) v = cond_both (eqb a v || eqb b v) 1 0 (λ (k : ℕ). k ≤ 1) (λ _. omega arith) (λ _. omega arith)
 ends_most (absent a b) v = omega arith
 ends_most (two s) v = omega arith
 ends_most (four s) v = omega arith
@@ -145,7 +154,8 @@ count_small c v old new k h e = let most = ends_most c v in omega arith
 
 -- the labels after one more condition
 pub labels_step : (n : ℕ) (path : List Condition) (c : Condition) (old new : List ℕ) → MayFollow n path c → length old ≡ n → IsMerge c old new → AreLabels n path old → AreLabels n (path ++ c ∷ []) new
-labels_step n path (present a b) old new h len merge is = labels_merged n path a b old new h.0.0 h.0.1 (λ v l. merge v (omega arith)) is
+labels_step n path (fixed a b) old new h len merge is = labels_merged n path (fixed a b) a b old new (λ u v. refl) h.0.0.0 h.0.0.1 (λ v l. merge v (omega arith)) is
+labels_step n path (present a b) old new h len merge is = labels_merged n path (present a b) a b old new (λ u v. refl) h.0.0 h.0.1 (λ v l. merge v (omega arith)) is
 labels_step n path (absent a b) old new h len merge is = subst (AreLabels n (path ++ absent a b ∷ [])) (sym merge) (labels_same n path (absent a b) old tt is)
 labels_step n path (two s) old new h len merge is = subst (AreLabels n (path ++ two s ∷ [])) (sym merge) (labels_same n path (two s) old tt is)
 labels_step n path (four s) old new h len merge is = subst (AreLabels n (path ++ four s ∷ [])) (sym merge) (labels_same n path (four s) old tt is)

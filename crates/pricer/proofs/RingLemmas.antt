@@ -7,7 +7,7 @@ use Rattle.std.proofs.lemmas.Bool.{cases_lt, cases_eq, cases_Bool, or_cases, or_
 use Rattle.std.proofs.lemmas.Bool.Decides.{nat_tests}
 use Rattle.tspdef.specs.Sets.{has, RisesFrom, IsSet}
 use Rattle.tspdef.specs.Tours.{joins, walk, steps, has_step, AreDistinct, IsTour}
-use Rattle.tspdef.specs.Paths.{Condition, absent, present, two, four, is_present, ContinuesPath, IsPath}
+use Rattle.tspdef.specs.Paths.{Condition, fixed, absent, present, two, four, is_present, ContinuesPath, IsPath}
 use Rattle.tspdef.specs.Sums.{sum_below, sum_pairs}
 use Rattle.tspdef.specs.Rays.{degree, IsReached, AreStepsOf}
 use Rattle.tspdef.proofs.SumLemmas.{sum_below-le, sum_below-add, sum_below-at, sum_below-same, sum_pairs-same, sum_pairs-zero}
@@ -295,6 +295,10 @@ stuck_is_round p n a (b ∷ c ∷ ds) r s all =
 
 no_self : (n : ℕ) (path more : List Condition) (u : ℕ) → ContinuesPath n path more → is_present more u u ≡ false
 no_self n path [] u h = refl
+no_self n path (fixed a b ∷ more) u h =
+    let l = h.0.0.0.0 in
+    let here : joins u u (a, b) ≡ false = grind (arith, nat_tests) in
+    or_from _ _ here (no_self n (path ++ fixed a b ∷ []) more u h.1)
 no_self n path (absent a b ∷ more) u h = no_self n (path ++ absent a b ∷ []) more u h.1
 no_self n path (present a b ∷ more) u h =
     let l = h.0.0.0 in

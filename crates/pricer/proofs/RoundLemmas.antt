@@ -6,7 +6,7 @@ use Rattle.std.proofs.lemmas.Int.{ints, clamps}
 use Rattle.std.proofs.lemmas.List.{take_more, get_or-replicate, length-replicate, length-take, append-nil}
 use Rattle.tspdef.specs.Cuts.{Cut}
 use Rattle.tspdef.specs.Closings.{IsDualSize, HasCounts, HasSizes}
-use Rattle.pricer.specs.Rounds.{clamped, city_duals, positive, rounded}
+use Rattle.pricer.specs.Rounds.{clamped, positive, rounded}
 
 -- one more behind those that are gone through
 pub positive_push : {X : Type 0} (qs : List (X × ℤ)) (q : X × ℤ) → positive (qs ++ q ∷ []) ≡ positive qs ++ positive (q ∷ [])

@@ -11,7 +11,7 @@ use Rattle.tspdef.specs.Tours.{crosses}
 use Rattle.tspdef.specs.Sets.{has}
 use Rattle.tspdef.specs.Instances.{Instance, IsInstance, dist}
 use Rattle.tspdef.specs.Cuts.{Cut, IsCut, coefficient, right_side}
-use Rattle.tspdef.specs.Paths.{Condition, absent, present, two, four, is_absent, is_present, condition_at}
+use Rattle.tspdef.specs.Paths.{Condition, fixed, absent, present, two, four, is_absent, is_present, condition_at}
 use Rattle.tspdef.specs.Closings.{Closing, IsDualSize, IsClosing}
 use Rattle.tspdef.specs.Sums.{sum_below, sum_pairs}
 use Rattle.tspdef.specs.Bounds.{Row, at_least, exactly, cut_rows, condition_row, condition_rows, price, worth, city_dual, reduced_cost, pair_term, bound}
@@ -75,6 +75,7 @@ one_set s u v = cond_both (crosses (has s) (u, v)) 1 0 (λ (k : ℕ). k + 0 ≤ 
 row_price_size : (o : Option Condition) (z u v : ℕ) → z ≤ 2 ^ 62 → IsWithin (2 ^ 62) (price (condition_row o z ∷ []) u v)
 row_price_size (Some (two s)) z u v h = let most = mul-le-mul h (one_set s u v) in record { low = omega (arith, ints); high = omega (arith, ints) }
 row_price_size (Some (four s)) z u v h = let most = mul-le-mul h (one_set s u v) in record { low = omega (arith, ints); high = omega (arith, ints) }
+row_price_size (Some (fixed a b)) z u v h = record { low = omega (arith, ints); high = omega (arith, ints) }
 row_price_size (Some (absent a b)) z u v h = record { low = omega (arith, ints); high = omega (arith, ints) }
 row_price_size (Some (present a b)) z u v h = record { low = omega (arith, ints); high = omega (arith, ints) }
 row_price_size None z u v h = record { low = omega (arith, ints); high = omega (arith, ints) }
@@ -82,6 +83,7 @@ row_price_size None z u v h = record { low = omega (arith, ints); high = omega (
 row_worth_size : (o : Option Condition) (z : ℕ) → z ≤ 2 ^ 62 → IsWithin (2 ^ 64) (worth (condition_row o z ∷ []))
 row_worth_size (Some (two s)) z h = record { low = omega (arith, ints); high = omega (arith, ints) }
 row_worth_size (Some (four s)) z h = record { low = omega (arith, ints); high = omega (arith, ints) }
+row_worth_size (Some (fixed a b)) z h = record { low = omega (arith, ints); high = omega (arith, ints) }
 row_worth_size (Some (absent a b)) z h = record { low = omega (arith, ints); high = omega (arith, ints) }
 row_worth_size (Some (present a b)) z h = record { low = omega (arith, ints); high = omega (arith, ints) }
 row_worth_size None z h = record { low = omega (arith, ints); high = omega (arith, ints) }

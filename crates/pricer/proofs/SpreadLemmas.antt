@@ -5,7 +5,7 @@ use Rattle.std.proofs.lemmas.Int.{ints}
 use Rattle.std.proofs.lemmas.Bool.{cond_both}
 use Rattle.tspdef.specs.Sets.{has, RisesFrom, IsSet, IsProper}
 use Rattle.tspdef.specs.Cuts.{Cut, subtour, comb, IsCut, IsTooth, sets_of}
-use Rattle.tspdef.specs.Paths.{Condition, absent, present, two, four, condition_at}
+use Rattle.tspdef.specs.Paths.{Condition, fixed, absent, present, two, four, condition_at}
 use Rattle.tspdef.specs.Closings.{IsDualSize}
 use Rattle.tspdef.specs.Bounds.{Row, at_least, exactly, cut_rows, condition_row, condition_rows}
 use Rattle.tspdef.proofs.SmallCuts.{cuts_are_small}
@@ -39,6 +39,7 @@ proper_wider n m s l h = let some = h.some in let less = h.not_all in record { s
 pub proper_set_wider : (n m : ℕ) (o : Option Condition) → n ≤ m → HasProperSet n o → HasProperSet m o
 proper_set_wider n m (Some (two s)) l h = proper_wider n m s l h
 proper_set_wider n m (Some (four s)) l h = proper_wider n m s l h
+proper_set_wider n m (Some (fixed a b)) l h = tt
 proper_set_wider n m (Some (absent a b)) l h = tt
 proper_set_wider n m (Some (present a b)) l h = tt
 proper_set_wider n m None l h = tt
@@ -84,6 +85,7 @@ held_four s y h c = let e = laid_one_pos y (is_counted h s) (has s c) in omega (
 pub held_other : (o : Option Condition) (y : ℕ) (h : Option ℕ) (c : ℕ) → ((s : List ℕ) → o ≡ Some (two s) → ⊥) → ((s : List ℕ) → o ≡ Some (four s) → ⊥) → held h (condition_row o y ∷ []) c ≡ pos 0
 held_other (Some (two s)) y h c f g = absurd (f s refl)
 held_other (Some (four s)) y h c f g = absurd (g s refl)
+held_other (Some (fixed a b)) y h c f g = omega (arith, ints)
 held_other (Some (absent a b)) y h c f g = omega (arith, ints)
 held_other (Some (present a b)) y h c f g = omega (arith, ints)
 held_other None y h c f g = omega (arith, ints)
@@ -129,6 +131,7 @@ held_cuts_size n (q ∷ qs) h c l cuts sizes =
 held_row_size : (o : Option Condition) (y : ℕ) (h : Option ℕ) (c : ℕ) → y ≤ 2 ^ 62 → IsWithin (2 ^ 62) (held h (condition_row o y ∷ []) c)
 held_row_size (Some (two s)) y h c l = rw (held_two s y h c) (laid_one_size (2 ^ 62) (neg_ℤ (pos y)) h s c (record { low = omega (arith, ints); high = omega (arith, ints) }))
 held_row_size (Some (four s)) y h c l = rw (held_four s y h c) (laid_one_size (2 ^ 62) (pos y) h s c (record { low = omega (arith, ints); high = omega (arith, ints) }))
+held_row_size (Some (fixed a b)) y h c l = record { low = omega (arith, ints); high = omega (arith, ints) }
 held_row_size (Some (absent a b)) y h c l = record { low = omega (arith, ints); high = omega (arith, ints) }
 held_row_size (Some (present a b)) y h c l = record { low = omega (arith, ints); high = omega (arith, ints) }
 held_row_size None y h c l = record { low = omega (arith, ints); high = omega (arith, ints) }

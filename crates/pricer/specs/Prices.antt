@@ -3,7 +3,7 @@
 use Rattle.std.specs.Prelude.{◌≡◌, ℕ, ◌+◌, ◌*◌, ◌^◌, Bool, true, cond, List, [], ◌∷◌, length, Option, Some, None, ℤ, pos, ◌+ℤ◌, ◌-ℤ◌, neg_ℤ, slice_index_or}
 use Rattle.std.specs.Int.{int_min}
 use Rattle.tspdef.specs.Sets.{has}
-use Rattle.tspdef.specs.Paths.{Condition, absent, present, two, four}
+use Rattle.tspdef.specs.Paths.{Condition, fixed, absent, present, two, four}
 use Rattle.tspdef.specs.Closings.{Closing}
 use Rattle.tspdef.specs.Sums.{sum_pairs}
 use Rattle.pricer.specs.Sizes.{IsWithin}
@@ -44,6 +44,7 @@ shared_by path closing v u = held (Some v) (cut_rows closing.cuts) u +ℤ held (
 
 -- what a condition on a pair that was undecided changes in the sum over all pairs, by the pair's reduced cost
 abbrev pub change_of : (ℕ → ℕ → ℤ) → Condition → ℤ
+change_of r (fixed u v) = r u v -ℤ int_min (pos 0) (r u v)
 change_of r (absent u v) = neg_ℤ (int_min (pos 0) (r u v))
 change_of r (present u v) = r u v -ℤ int_min (pos 0) (r u v)
 change_of r (two s) = pos 0

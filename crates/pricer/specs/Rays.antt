@@ -1,11 +1,12 @@
 -- What the code keeps while it looks for a ray.
 use Rattle.std.specs.Prelude.{◌≡◌, ℕ, ◌<◌, ◌≤◌, cond, ◌==◌, ◌||◌, List, length, slice_index, true, pos}
 use Rattle.tspdef.specs.Sets.{has}
-use Rattle.tspdef.specs.Paths.{Condition, absent, present, two, four, is_present}
+use Rattle.tspdef.specs.Paths.{Condition, fixed, absent, present, two, four, is_present}
 use Rattle.tspdef.specs.Rays.{degree, IsClosedUnder}
 
 -- how often a condition uses a pair at a city
 abbrev pub ends_at : Condition → ℕ → ℕ
+ends_at (fixed a b) v = cond ((a == v) || (b == v)) 1 0
 ends_at (absent a b) v = 0
 ends_at (present a b) v = cond ((a == v) || (b == v)) 1 0
 ends_at (two s) v = 0
@@ -40,6 +41,7 @@ relabelled labels from to v = cond (slice_index labels v == from) to (slice_inde
 
 -- a condition that uses a pair makes the labels of its cities one
 abbrev pub IsMerge : Condition → List ℕ → List ℕ → Type 0
+IsMerge (fixed a b) old new = (v : ℕ) → v < length old → slice_index new v ≡ relabelled old (slice_index old a) (slice_index old b) v
 IsMerge (absent a b) old new = new ≡ old
 IsMerge (present a b) old new = (v : ℕ) → v < length old → slice_index new v ≡ relabelled old (slice_index old a) (slice_index old b) v
 IsMerge (two s) old new = new ≡ old

@@ -89,7 +89,8 @@ fn plain_instance(alloc: Global, instance: &Instance) -> Result<plain::Instance,
             table.push(instance.d(u, v))?;
         }
     }
-    Ok(plain::Instance { n, table })
+    let fixed = Vec::from_slice(alloc, instance.fixed())?;
+    Ok(plain::Instance { n, table, fixed })
 }
 
 /// Each city, or not.

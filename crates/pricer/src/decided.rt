@@ -56,7 +56,7 @@ fn change<'a, T: Trail<'a>>(
             let cost = reduced_cost(instance, trail, closing, u, v);
             signed(below_zero(cost))
         }
-        Step::Present(u, v) => {
+        Step::Fixed(u, v) | Step::Present(u, v) => {
             let cost = reduced_cost(instance, trail, closing, u, v);
             plus(cost, signed(below_zero(cost)))
         }

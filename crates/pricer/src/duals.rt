@@ -101,7 +101,7 @@ fn step_worth(step: Step<'_>, dual: u64) -> i128
     ensures size { IsWithin (2 ^ 64) result }
 {
     match step {
-        Step::Absent(_, _) | Step::Present(_, _) => 0,
+        Step::Fixed(_, _) | Step::Absent(_, _) | Step::Present(_, _) => 0,
         Step::Two(_) => -2 * i128::from(dual),
         Step::Four(_) => 4 * i128::from(dual),
     }
@@ -145,7 +145,7 @@ fn step_price(step: Step<'_>, dual: u64, u: u32, v: u32) -> i128
     ensures size { IsWithin (2 ^ 62) result }
 {
     match step {
-        Step::Absent(_, _) | Step::Present(_, _) => 0,
+        Step::Fixed(_, _) | Step::Absent(_, _) | Step::Present(_, _) => 0,
         Step::Two(set) => {
             if set.contains(u) != set.contains(v) {
                 -i128::from(dual)

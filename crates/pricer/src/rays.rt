@@ -2,8 +2,9 @@
 
 ghost use Rattle.std.specs.Prelude.{◌≡◌, ℕ, ◌+◌, ◌*◌, ◌^◌, ◌<◌, ◌≤◌, ◌==◌, ◌&&◌, nat_lt, List, [], length, slice_index, pos, neg_ℤ, ◌<ℤ◌, IfOk, MatchOption};
 ghost use Rattle.tspdef.specs.Sets.{has, IsSet, IsProper};
+ghost use Rattle.tspdef.specs.Tours.{IsTour};
 ghost use Rattle.tspdef.specs.Paths.{IsPath, DecidesAll};
-ghost use Rattle.tspdef.specs.Instances.{IsTourOf, length_in};
+ghost use Rattle.tspdef.specs.Instances.{length_in};
 ghost use Rattle.tspdef.specs.Closings as closing_defs;
 ghost use Rattle.tspdef.specs.Bounds as bound_defs;
 ghost use Rattle.tspdef.specs.Rays as defs;
@@ -32,7 +33,7 @@ pub fn ray(
     requires cities { path.now.n ≡ instance.now.n }
     requires decided { DecidesAll instance.now.n path.now.conditions }
     requires best { best < 2 ^ 42 }
-    requires shortest { (tour : List ℕ) → IsTourOf instance.now tour → defs.AreStepsOf instance.now.n path.now.conditions tour
+    requires shortest { (tour : List ℕ) → IsTour instance.now.n tour → defs.AreStepsOf instance.now.n path.now.conditions tour
         → best ≤ length_in instance.now tour }
     ensures ray { IfOk result (defs.IsRay instance.now.n path.now.conditions best) }
     ensures fits { IfOk result (closing_defs.Fits instance.now.n path.now.conditions) }
@@ -134,7 +135,7 @@ fn count(degrees: &mut [usize], condition: &Cond)
     requires small { (v : ℕ) → slice_index degrees.old v < 2 ^ 63 }
     ensures { (v : ℕ) → slice_index degrees.new v ≡ slice_index degrees.old v + ends_at (condition_of condition.now) v }
 {
-    if let Cond::Present(u, v) = condition {
+    if let Cond::Fixed(u, v) | Cond::Present(u, v) = condition {
         degrees[*u as usize] += 1;
         degrees[*v as usize] += 1;
     }
@@ -205,7 +206,7 @@ fn merge(labels: &mut [u32], condition: &Cond)
     requires { IsPairBelow (length labels.old) (condition_of condition.now) }
     ensures { IsMerge (condition_of condition.now) labels.old labels.new }
 {
-    if let Cond::Present(u, v) = condition {
+    if let Cond::Fixed(u, v) | Cond::Present(u, v) = condition {
         let from = labels[*u as usize];
         let to = labels[*v as usize];
         relabel(labels, from, to);

@@ -104,7 +104,7 @@ fn spread_step(numbers: &mut [i128], holder: Option<u32>, step: Step<'_>, dual: 
     ensures { (c : ℕ) → at numbers.new c ≡ at numbers.old c +ℤ held holder (condition_row (Some (condition_of step.entry)) dual ∷ []) c }
 {
     match step {
-        Step::Absent(_, _) | Step::Present(_, _) => {}
+        Step::Fixed(_, _) | Step::Absent(_, _) | Step::Present(_, _) => {}
         Step::Two(set) => lower(numbers, holder, set, dual),
         Step::Four(set) => raise(numbers, holder, set, dual),
     }

@@ -208,6 +208,25 @@ fn a_tour_needs_no_dual(rt: HostRuntime) -> Result<(), Fail> {
     Ok(())
 }
 
+#[test]
+fn fixed_pairs_are_used_and_have_no_depth(rt: HostRuntime) -> Result<(), Fail> {
+    let alloc = rt.alloc();
+    let mut tour = Path::root(alloc, 3, &[(0, 1), (0, 2)])?;
+    present(&mut tour, 1, 2)?;
+    let instance = triangle(alloc)?;
+    let closing = ray_from_zero(&rt, alloc, &instance, &tour)?;
+    assert_eq!(rt; closing.city(), [0; 3].as_slice());
+    assert_eq!(rt; bound_of(&rt, &instance, &tour, &closing), 12 << 20);
+    let triangles = two_triangles(alloc)?;
+    let mut path = Path::root(alloc, 6, &[(0, 1)])?;
+    twice(&mut path, set(alloc, 6, &[0, 1, 2])?)?;
+    let first = closing_with(alloc, Vec::new(alloc), &[(1, 5)])?;
+    assert_eq!(rt; fits(&triangles, &path, &first), Fit::Fits);
+    let second = closing_with(alloc, Vec::new(alloc), &[(2, 5)])?;
+    assert_eq!(rt; fits(&triangles, &path, &second), Fit::Misfit(4));
+    Ok(())
+}
+
 /// A closing of six cities with these cuts and clique duals.
 fn closing_with(
     alloc: Global,

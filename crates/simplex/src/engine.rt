@@ -1,63 +1,64 @@
 //! The engine: a bounded-variable dual simplex in whole numbers, over a factored basis.
 //!
-//! Each row is an equation of the columns and a slack of its own, with basic variables one a line. Costs are not negative,
-//! so the basis of all slacks is dual feasible, and stays so: the line whose miss weighs most leaves, and the ratio test
-//! finds who enters, and which columns go over to their other bound on the way. A new row comes with its slack basic; a new
-//! column starts at the bound that its reduced cost asks for: so every solve goes on from the last. Costs bear a tiny noise,
-//! fixed for a column's life, against cycling; at the end the duals are found anew by the true costs, with a residual that
-//! is mended three times. A pivot costs O(entries of the factors, and cells of the rows that the leaving line meets).
-//! Nothing is proved of it but that it is safe and ends: the check decides what its answer is worth.
+//! Each row is an equation of the columns, which are the structural variables, and a slack of its own. Costs are not
+//! negative, so the basis of all slacks is dual feasible, and stays so: the basic variable whose infeasibility weighs most
+//! leaves, and the ratio test finds who enters, and which columns go over to their other bound on the way. A new row comes
+//! with its slack basic; a new column starts at the bound that its reduced cost asks for: so every solve goes on from the
+//! last. Costs bear a tiny perturbation, fixed for a column's life, against cycling; at the end the duals are found anew by
+//! the true costs, with iterative refinement. A pivot costs O(entries of the factors, and cells of the rows that the pivot
+//! row of the inverse meets). Nothing is proved of it but that it is safe and ends: the check decides what its answer is worth.
 //! (Lemke 1954; Forrest and Goldfarb 1992; Maros 2003; Koberstein's survey of the dual simplex.)
 use lpcheck::{Cells, Column, Row};
 use std::alloc::{AllocError, Global};
 
 mod factoring;
 mod factors;
-mod fixed;
 mod growth;
 mod lists;
+mod numbers;
 mod pivot;
 mod ratio;
 mod refine;
+mod tolerances;
 
 use factors::Factors;
-use fixed::ONE;
 use lists::Entry;
+use numbers::ONE;
+use tolerances::COST_BITS;
 
-/// Where a variable stands: in the basis, at its least or greatest value, or at its only one.
+/// Where a variable stands: in the basis, at its lower or upper bound, or at its only value.
 #[derive(Clone, Copy, PartialEq, Eq)]
 enum State {
     Basic,
-    Low,
-    High,
-    Held,
+    AtLower,
+    AtUpper,
+    Fixed,
 }
 
-/// A variable.
+/// A variable: a column of the program, or the slack of a row.
 #[derive(Clone, Copy)]
-enum Head {
+enum Variable {
     Column(u32),
     Slack(u32),
 }
 
-/// A column: its value is from 0 to one, or one where it is held.
+/// A structural variable, which is a column: its value is from 0 to one, or one where it is fixed.
 #[derive(Drop)]
-struct Pair {
+struct Structural {
     cost: i64,
-    noise: i64,
-    held: bool,
+    perturbation: i64,
+    fixed: bool,
     entries: Vec<Entry>,
     value: i64,
 }
 
-/// What a pivot asks of a column: its reduced cost, and what it has of the leaving line of the inverse.
+/// What pricing knows of a column: its reduced cost, and its entry in the pivot row.
 #[derive(Clone, Copy)]
-struct Rate {
-    reduced: i64,
-    step: i64,
+struct Priced {
+    reduced_cost: i64,
+    pivot_entry: i64,
     state: State,
-    // it is among those that the line meets
-    hit: bool,
+    in_pivot_row: bool,
 }
 
 /// The slack of a row: what its sum lacks to the right side.
@@ -67,27 +68,27 @@ struct Slack {
     high: i64,
     rhs: i64,
     state: State,
-    reduced: i64,
+    reduced_cost: i64,
     value: i64,
 }
 
-/// A line of the basis.
+/// A basis row: the variable that is basic in it, with its value and its bounds.
 #[derive(Clone, Copy)]
-struct Line {
-    head: Head,
+struct BasisRow {
+    variable: Variable,
     value: i64,
     low: i64,
     high: i64,
-    // the reference weight by which the line's miss is measured
+    // the Devex reference weight by which the infeasibility is measured
     weight: i64,
 }
 
-/// A variable that bounds how far the duals may go, by the ratio of its reduced cost to its step.
+/// Where the ratio test's dual step reaches a reduced cost of 0.
 #[derive(Clone, Copy)]
-struct Break {
-    head: Head,
-    reduced: i64,
-    step: i64,
+struct Breakpoint {
+    variable: Variable,
+    reduced_cost: i64,
+    pivot_entry: i64,
     // how far it is from its one bound to the other
     range: i64,
 }
@@ -95,25 +96,25 @@ struct Break {
 /// A basis and its factors, of the rows and columns seen so far. What is not a count is in 2^-32.
 #[derive(Drop)]
 pub struct Engine {
-    pairs: Vec<Pair>,
-    rates: Vec<Rate>,
+    structurals: Vec<Structural>,
+    priced: Vec<Priced>,
     slacks: Vec<Slack>,
-    lines: Vec<Line>,
+    basis: Vec<BasisRow>,
     factors: Factors,
-    // the leaving line of the inverse
+    // the leaving variable's row of the inverse
     rho: Vec<i64>,
-    // a list by lines or rows, for the while
+    // a list by rows, for the while
     work: Vec<i64>,
-    // the columns that the leaving line meets
-    hits: Vec<u32>,
-    breaks: Vec<Break>,
+    // the columns with an entry in the pivot row
+    pivot_row: Vec<u32>,
+    breakpoints: Vec<Breakpoint>,
     // the columns that go over to their other bound
     flips: Vec<u32>,
     duals: Vec<i64>,
     // what a ray adds to each dual, in units
     ray: Vec<i64>,
     // costs are shifted right so far
-    shift: u32,
+    cost_shift: u32,
     seed: u64,
 }
 
@@ -121,19 +122,19 @@ impl Engine {
     /// An engine that has seen nothing.
     pub fn new(alloc: Global) -> Engine {
         Engine {
-            pairs: Vec::new(alloc),
-            rates: Vec::new(alloc),
+            structurals: Vec::new(alloc),
+            priced: Vec::new(alloc),
             slacks: Vec::new(alloc),
-            lines: Vec::new(alloc),
+            basis: Vec::new(alloc),
             factors: Factors::none(alloc),
             rho: Vec::new(alloc),
             work: Vec::new(alloc),
-            hits: Vec::new(alloc),
-            breaks: Vec::new(alloc),
+            pivot_row: Vec::new(alloc),
+            breakpoints: Vec::new(alloc),
             flips: Vec::new(alloc),
             duals: Vec::new(alloc),
             ray: Vec::new(alloc),
-            shift: 0,
+            cost_shift: 0,
             seed: 11,
         }
     }
@@ -148,21 +149,21 @@ impl Engine {
         pivots: u32,
     ) -> Result<Engine, AllocError> {
         let mut engine = self;
-        let shift = shift_of(cols);
-        if shift > engine.shift && !engine.pairs.is_empty() {
+        let shift = cost_shift_of(cols);
+        if shift > engine.cost_shift && !engine.structurals.is_empty() {
             engine = Engine::new(alloc);
         }
-        engine.shift = engine.shift.max(shift);
+        engine.cost_shift = engine.cost_shift.max(shift);
         engine.grow(alloc, table, rows, cols)?;
-        engine.pivot_all(alloc, table, pivots)?;
+        engine.iterate(alloc, table, pivots)?;
         Ok(engine)
     }
 
     /// The value of a column, in units.
     #[inline]
     pub fn value(&self, column: usize) -> u32 {
-        match self.pairs.get(column) {
-            Some(pair) => (pair.value.wrapping_add(2048).clamp(0, ONE) >> 12) as u32,
+        match self.structurals.get(column) {
+            Some(structural) => (structural.value.wrapping_add(2048).clamp(0, ONE) >> 12) as u32,
             None => 0,
         }
     }
@@ -172,7 +173,9 @@ impl Engine {
         let far = self.ray.get(row).copied().unwrap_or(0);
         match (self.duals.get(row), self.slacks.get(row)) {
             (Some(y), Some(slack)) => {
-                let units = (*y >> (12u32.saturating_sub(self.shift).min(12))).wrapping_add(far);
+                let units = (*y >> (12u32.saturating_sub(self.cost_shift).min(12))).wrapping_add(
+                    far,
+                );
                 if slack.high > 0 {
                     units.wrapping_neg()
                 } else {
@@ -184,13 +187,13 @@ impl Engine {
     }
 }
 
-/// By how much costs are shifted, so that the greatest has about 20 bits.
-fn shift_of(cols: &[Column]) -> u32 {
+/// By how much costs are shifted, so that the greatest has about as many bits as it may have.
+fn cost_shift_of(cols: &[Column]) -> u32 {
     let mut most = 1u32;
     for column in cols {
         most = most.max(column.cost);
     }
-    12u32.saturating_sub(most.leading_zeros())
+    (32 - COST_BITS).saturating_sub(most.leading_zeros())
 }
 
 /// What a column has of a row of numbers.

@@ -1,7 +1,7 @@
 -- One slot changed, one step after another.
-use Rattle.std.proofs.Common.{◌≡◌, ℕ, ◌==◌, Bool, true, false, cond, List, [], refl, sym, ap, subst, ◌∙◌, Option, Some, None, Result, Ok, Err, OnOk}
+use Rattle.std.proofs.Common.{◌≡◌, ℕ, ◌==◌, Bool, true, false, cond, List, refl, sym, ap, subst, ◌∙◌, Option, Some, None, Result, Ok, Err, OnOk}
 use Rattle.ports.specs.Outside.{BothTell, WhereTold}
-use Rattle.ports.specs.Slots.{SlotsTold, SlotTold, slot_of, with_slot, after_write, ChangesSlot}
+use Rattle.ports.specs.Slots.{kept_slot, SlotsTold, SlotTold, slot_of, with_slot, after_write, ChangesSlot}
 use Rattle.slotstore.specs.Writing.{KeepsOthers, Becomes}
 
 -- slots keep what is written to a slot
@@ -75,15 +75,15 @@ kept_then slot t u v = both_then (KeepsOthers slot) (KeepsOthers slot) (KeepsOth
 -- one step's bytes after another's
 pub becomes_then : (slot : ℕ) (f h : List ℕ → List ℕ) (t u v : SlotsTold) → Becomes slot f t u → Becomes slot h u v → Becomes slot (λ bytes. h (f bytes)) t v
 becomes_then slot f h t u v x y =
-    let first : SlotTold = record { bytes = f (slot_of slot t).bytes; unsynced = [] } in
-    let second : SlotTold = record { bytes = h (f (slot_of slot t).bytes); unsynced = [] } in
+    let first : SlotTold = kept_slot (f (slot_of slot t).bytes) in
+    let second : SlotTold = kept_slot (h (f (slot_of slot t).bytes)) in
     let held : slot_of slot u ≡ first = ap (slot_of slot) x ∙ slot_of-with_slot slot first t in
-    y ∙ ap (λ s. with_slot slot (record { bytes = h s.bytes; unsynced = [] }) u) held
+    y ∙ ap (λ s. with_slot slot (kept_slot (h s.bytes)) u) held
     ∙ ap (λ w. with_slot slot second w) x
     ∙ with_slot-twice slot first second t
 
 pub becomes_as : (slot : ℕ) (f h : List ℕ → List ℕ) → ((bytes : List ℕ) → f bytes ≡ h bytes) → (t u : SlotsTold) → Becomes slot f t u → Becomes slot h t u
-becomes_as slot f h same t u x = x ∙ ap (λ b. with_slot slot (record { bytes = b; unsynced = [] }) t) (same (slot_of slot t).bytes)
+becomes_as slot f h same t u x = x ∙ ap (λ b. with_slot slot (kept_slot (b)) t) (same (slot_of slot t).bytes)
 
 -- what holds at a success
 pub on_ok : {T E : Type 0} (r : Result T E) (P Q : Type 0) → (P → Q) → OnOk r P → OnOk r Q

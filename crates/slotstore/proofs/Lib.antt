@@ -2,3 +2,10 @@ pub mod Changes
 pub mod Written
 pub mod Reading
 pub mod Loading
+pub mod Strays
+pub mod Walks
+pub mod Gates
+pub mod Told
+pub mod Leaving
+pub mod Settling
+pub mod Steps

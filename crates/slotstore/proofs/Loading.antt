@@ -1,12 +1,12 @@
 -- What is loaded after a save.
-use Rattle.std.proofs.Common.{◌≡◌, ℕ, ◌+◌, ◌-◌, ◌^◌, ◌≤◌, ◌<◌, ◌==◌, suc, Bool, true, false, cond, List, [], ◌∷◌, ◌++◌, length, take, drop, refl, ap, subst, ◌∙◌, append_assoc, length-append, arith, Option, Some, None}
+use Rattle.std.proofs.Common.{◌≡◌, ℕ, ◌+◌, ◌-◌, ◌^◌, ◌≤◌, ◌<◌, ◌==◌, suc, Bool, true, false, cond, List, ◌∷◌, ◌++◌, length, take, drop, refl, ap, subst, ◌∙◌, append_assoc, length-append, arith, Option, Some, None}
 use Rattle.std.proofs.lemmas.List.{take_at, drop_at}
 use Rattle.std.proofs.lemmas.Bool.Decides.{nat_tests}
 use Rattle.std.specs.Option.{option_map_or}
 use Rattle.byteorder.specs.Endian.{big_number, big_bytes}
 use Rattle.byteorder.specs.Numbers.{big_number-reads_back}
 use Rattle.ports.specs.Outside.{BothTell, WhereTold}
-use Rattle.ports.specs.Slots.{SlotsTold, slot_of, with_slot}
+use Rattle.ports.specs.Slots.{kept_slot, SlotsTold, slot_of, with_slot}
 use Rattle.slotstore.specs.Slot.{number, body_length, is_valid, body_of, label, whole_slot}
 use Rattle.slotstore.specs.Store.{valid_number, next_number, newer_by, newer, loaded, target, target_number, after_save}
 use Rattle.slotstore.specs.Writing.{Becomes}
@@ -47,14 +47,14 @@ next_few n = omega arith
 
 -- the slot that is saved to, with its number and what stands past the body
 saved_to : ℕ → ℕ → List ℕ → List ℕ → SlotsTold → SlotsTold
-saved_to slot n body rest t = with_slot slot (record { bytes = whole_slot n body ++ rest; unsynced = [] }) t
+saved_to slot n body rest t = with_slot slot (kept_slot (whole_slot n body ++ rest)) t
 
 loads_first : (n : ℕ) (body rest : List ℕ) (t : SlotsTold) (o : Option ℕ) → n ≤ 2 → length body < 2 ^ 64 - 10 → valid_number t.slot1.bytes ≡ o
     → newer_by (Some n) o ≡ Some 0 → loaded (saved_to 0 n body rest t) ≡ Some body
 unfolding saved_to
 loads_first n body rest t o few small other is =
     let first = said_number n body rest few small in
-    let both : newer (with_slot 0 (record { bytes = whole_slot n body ++ rest; unsynced = [] }) t) ≡ Some 0 =
+    let both : newer (with_slot 0 (kept_slot (whole_slot n body ++ rest)) t) ≡ Some 0 =
     ap (λ a. newer_by a (valid_number t.slot1.bytes)) first ∙ ap (newer_by (Some n)) other ∙ is in
     rw both (ap (λ b. Some b) (said_body n body rest (omega arith)))
 
@@ -63,7 +63,7 @@ loads_second : (n : ℕ) (body rest : List ℕ) (t : SlotsTold) (o : Option ℕ)
 unfolding saved_to
 loads_second n body rest t o few small other is =
     let second = said_number n body rest few small in
-    let both : newer (with_slot 1 (record { bytes = whole_slot n body ++ rest; unsynced = [] }) t) ≡ Some 1 =
+    let both : newer (with_slot 1 (kept_slot (whole_slot n body ++ rest)) t) ≡ Some 1 =
     ap (newer_by (valid_number t.slot0.bytes)) second ∙ ap (λ a. newer_by a (Some n)) other ∙ is in
     rw both (ap (λ b. Some b) (said_body n body rest (omega arith)))
 
@@ -81,8 +81,8 @@ saves_to : (slot n : ℕ) (body : List ℕ) (t : SlotsTold) → target t ≡ slo
     → after_save body t ≡ saved_to slot n body (drop (10 + length body) (slot_of slot t).bytes) t
 unfolding saved_to
 saves_to slot n body t s e =
-    ap (λ k. with_slot k (record { bytes = whole_slot (target_number t) body ++ drop (10 + length body) (slot_of k t).bytes; unsynced = [] }) t) s
-    ∙ ap (λ m. with_slot slot (record { bytes = whole_slot m body ++ drop (10 + length body) (slot_of slot t).bytes; unsynced = [] }) t) e
+    ap (λ k. with_slot k (kept_slot (whole_slot (target_number t) body ++ drop (10 + length body) (slot_of k t).bytes)) t) s
+    ∙ ap (λ m. with_slot slot (kept_slot (whole_slot m body ++ drop (10 + length body) (slot_of slot t).bytes)) t) e
 
 pub loads_saved : (body : List ℕ) (t : SlotsTold) → length body < 2 ^ 64 - 10 → loaded (after_save body t) ≡ Some body
 loads_saved body t small = go (valid_number t.slot0.bytes) (valid_number t.slot1.bytes) refl refl
@@ -138,5 +138,5 @@ saved_told slot n body t u v same is e x = go t v is e (subst (λ w. BothTell (B
     go None (Some v) is e x = x
     go (Some t) None is e x = x
     go (Some t) (Some v) is e x =
-        x ∙ ap (λ k. with_slot k (record { bytes = whole_slot n body ++ drop (10 + length body) (slot_of k t).bytes; unsynced = [] }) t) is
-        ∙ ap (λ m. with_slot (target t) (record { bytes = whole_slot m body ++ drop (10 + length body) (slot_of (target t) t).bytes; unsynced = [] }) t) e
+        x ∙ ap (λ k. with_slot k (kept_slot (whole_slot n body ++ drop (10 + length body) (slot_of k t).bytes)) t) is
+        ∙ ap (λ m. with_slot (target t) (kept_slot (whole_slot m body ++ drop (10 + length body) (slot_of (target t) t).bytes)) t) e

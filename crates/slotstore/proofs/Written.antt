@@ -19,18 +19,18 @@ put_within pos (b ∷ bs) old within =
 pub label-length : (n : ℕ) (body : List ℕ) → length (label n body) ≡ 9
 label-length n body = ap suc (length-bytes_high_first 8 (length body))
 
-shut : (value : ℕ) (old : List ℕ) → with_gate value old ≡ value ∷ drop 1 old
-shut value old = put_within 0 (value ∷ []) old (omega arith)
+pub gate_is : (value : ℕ) (old : List ℕ) → with_gate value old ≡ value ∷ drop 1 old
+gate_is value old = put_within 0 (value ∷ []) old (omega arith)
 
-labelled : (n : ℕ) (body old : List ℕ) → put_at 1 (label n body) (0 ∷ drop 1 old) ≡ (0 ∷ label n body) ++ drop 10 old
-labelled n body old =
+labelled : (g n : ℕ) (body old : List ℕ) → put_at 1 (label n body) (g ∷ drop 1 old) ≡ (g ∷ label n body) ++ drop 10 old
+labelled g n body old =
     let len = label-length n body in
-    let past : drop (1 + length (label n body)) (0 ∷ drop 1 old) ≡ drop 10 old = ap (λ k. drop (1 + k) (0 ∷ drop 1 old)) len ∙ drop-drop 9 1 old in
-    put_within 1 (label n body) (0 ∷ drop 1 old) (omega arith) ∙ ap (λ s. 0 ∷ (label n body ++ s)) past
+    let past : drop (1 + length (label n body)) (g ∷ drop 1 old) ≡ drop 10 old = ap (λ k. drop (1 + k) (g ∷ drop 1 old)) len ∙ drop-drop 9 1 old in
+    put_within 1 (label n body) (g ∷ drop 1 old) (omega arith) ∙ ap (λ s. g ∷ (label n body ++ s)) past
 
-filled : (n : ℕ) (body old : List ℕ) → put_at 10 body ((0 ∷ label n body) ++ drop 10 old) ≡ (0 ∷ label n body) ++ (body ++ drop (10 + length body) old)
-filled n body old =
-    let front = 0 ∷ label n body in
+filled : (g n : ℕ) (body old : List ℕ) → put_at 10 body ((g ∷ label n body) ++ drop 10 old) ≡ (g ∷ label n body) ++ (body ++ drop (10 + length body) old)
+filled g n body old =
+    let front = g ∷ label n body in
     let len : length front ≡ 10 = ap suc (label-length n body) in
     let taken : take 10 (front ++ drop 10 old) ≡ front = take_at front (drop 10 old) 10 len in
     let past : drop (10 + length body) (front ++ drop 10 old) ≡ drop (10 + length body) old =
@@ -39,12 +39,16 @@ filled n body old =
     ∙ ap (λ s. s ++ (body ++ drop (10 + length body) (front ++ drop 10 old))) taken
     ∙ ap (λ s. front ++ (body ++ s)) past
 
+-- a slot that was filled behind its gate
+pub filled_whole : (g n : ℕ) (body old : List ℕ) → with_body n body (g ∷ drop 1 old) ≡ (g ∷ label n body) ++ (body ++ drop (10 + length body) old)
+filled_whole g n body old = ap (put_at 10 body) (labelled g n body old) ∙ filled g n body old
+
+-- and whose gate was opened
+pub opened : (g n : ℕ) (body old : List ℕ) → with_gate 1 (with_body n body (g ∷ drop 1 old)) ≡ whole_slot n body ++ drop (10 + length body) old
+opened g n body old =
+    let rest = drop (10 + length body) old in
+    ap (with_gate 1) (filled_whole g n body old) ∙ gate_is 1 ((g ∷ label n body) ++ (body ++ rest)) ∙ ap (λ s. 1 ∷ s) (sym (append_assoc (label n body) body rest))
+
 -- a slot whose gate was shut, that was filled, and whose gate was opened
 pub written_whole : (n : ℕ) (body old : List ℕ) → with_gate 1 (with_body n body (with_gate 0 old)) ≡ whole_slot n body ++ drop (10 + length body) old
-written_whole n body old =
-    let rest = drop (10 + length body) old in
-    let one = ap (λ s. with_gate 1 (with_body n body s)) (shut 0 old) in
-    let two = ap (λ s. with_gate 1 (put_at 10 body s)) (labelled n body old) in
-    let three = ap (with_gate 1) (filled n body old) in
-    let four = shut 1 ((0 ∷ label n body) ++ (body ++ rest)) in
-    one ∙ two ∙ three ∙ four ∙ ap (λ s. 1 ∷ s) (sym (append_assoc (label n body) body rest))
+written_whole n body old = ap (λ s. with_gate 1 (with_body n body s)) (gate_is 0 old) ∙ opened 0 n body old

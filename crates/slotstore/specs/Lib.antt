@@ -1,3 +1,5 @@
 pub mod Slot
 pub mod Store
+pub mod Crashing
+pub mod Standing
 pub mod Writing

@@ -1,7 +1,7 @@
 -- What two slots hold as a store of one body, and what a save makes of them.
-use Rattle.std.specs.Prelude.{◌≡◌, ℕ, ◌+◌, ◌-◌, ◌%◌, ◌==◌, List, [], ◌++◌, length, drop, Option, Some, None, option_map, if◌then◌else◌}
+use Rattle.std.specs.Prelude.{◌≡◌, ℕ, ◌+◌, ◌-◌, ◌%◌, ◌==◌, List, ◌++◌, length, drop, Option, Some, None, option_map, if◌then◌else◌}
 use Rattle.std.specs.Option.{option_map_or}
-use Rattle.ports.specs.Slots.{SlotsTold, slot_of, with_slot}
+use Rattle.ports.specs.Slots.{kept_slot, SlotsTold, slot_of, with_slot}
 use Rattle.slotstore.specs.Slot.{number, is_valid, body_of, whole_slot}
 
 -- the number of a slot, where it is whole
@@ -37,10 +37,7 @@ target_number t = option_map_or (λ slot. next_number (number (slot_of slot t).b
 
 -- slots after a save: the target has the body and, past it, what stood there; all of it is synced
 abbrev pub after_save : List ℕ → SlotsTold → SlotsTold
-after_save body t = with_slot (target t) (record {
-  bytes = whole_slot (target_number t) body ++ drop (10 + length body) (slot_of (target t) t).bytes;
-  unsynced = [];
-}) t
+after_save body t = with_slot (target t) (kept_slot (whole_slot (target_number t) body ++ drop (10 + length body) (slot_of (target t) t).bytes)) t
 
 -- nothing changed but the slot that a save writes
 abbrev pub ChangesTarget : SlotsTold → SlotsTold → Type 0

@@ -1,6 +1,6 @@
 -- What the steps of a save do to one slot.
 use Rattle.std.specs.Prelude.{◌≡◌, ℕ, List, [], ◌∷◌, ◌+◌, ◌==◌, ◌&&◌, nat_le, nat_lt, ◌^◌, Option, Some, None, if◌then◌else◌}
-use Rattle.ports.specs.Slots.{SlotsTold, slot_of, with_slot, put_at}
+use Rattle.ports.specs.Slots.{kept_slot, SlotsTold, slot_of, with_slot, put_at}
 use Rattle.slotstore.specs.Slot.{gate, number, body_length, label}
 use Rattle.slotstore.specs.Store.{next_number}
 
@@ -11,7 +11,7 @@ KeepsOthers slot old new = new ≡ with_slot slot (slot_of slot new) old
 -- one slot holds what `change` makes of its bytes, all synced, and nothing else changed
 abbrev pub Becomes : ℕ → (List ℕ → List ℕ) → SlotsTold → SlotsTold → Type 0
 Becomes slot change old new =
-    new ≡ with_slot slot (record { bytes = change (slot_of slot old).bytes; unsynced = [] }) old
+    new ≡ with_slot slot (kept_slot (change (slot_of slot old).bytes)) old
 
 -- a slot with another gate
 abbrev pub with_gate : ℕ → List ℕ → List ℕ

@@ -3,6 +3,7 @@ ghost use Rattle.std.specs.Prelude.{◌≡◌, ℕ, ◌+◌, ◌<◌, ◌≤◌,
 ghost use Rattle.ports.specs.Outside.{WhereTold, Cause};
 ghost use Rattle.ports.specs.Slots.{slot_of};
 ghost use Rattle.slotstore.specs.Store.{valid_number};
+ghost use Rattle.slotstore.specs.Crashing.{is_shut};
 ghost use Rattle.slotstore.specs.Writing.{said_end};
 
 use byteorder::{BigEndian, ByteOrder};
@@ -17,6 +18,7 @@ pub(crate) fn valid_number<L: Slots>(slots: &mut L, slot: u8) -> Result<Option<u
     ensures number { IfOk result (λ n. WhereTold (λ t. n ≡ valid_number (slot_of slot t).bytes) (L.told slots.old)) }
     ensures small { IfOk result (λ n. IfSome n (λ number. number ≤ 2)) }
     ensures told { L.told slots.new ≡ L.told slots.old }
+    ensures past { L.past slots.new ≡ L.past slots.old }
     ensures cause { Cause (IsErr result) (L.faults slots.old) (L.faults slots.new) }
 {
     let mut front = [0u8; FRONT];
@@ -31,6 +33,19 @@ pub(crate) fn valid_number<L: Slots>(slots: &mut L, slot: u8) -> Result<Option<u
     }
 }
 
+/// Whether a slot has a gate that is closed.
+pub(crate) fn is_shut<L: Slots>(slots: &mut L, slot: u8) -> Result<bool, Failed>
+    requires { slot < 2 }
+    ensures shut { IfOk result (λ b. WhereTold (λ t. b ≡ is_shut (slot_of slot t).bytes) (L.told slots.old)) }
+    ensures told { L.told slots.new ≡ L.told slots.old }
+    ensures past { L.past slots.new ≡ L.past slots.old }
+    ensures cause { Cause (IsErr result) (L.faults slots.old) (L.faults slots.new) }
+{
+    let mut gate = [0u8; 1];
+    let count = slots.read_at(slot, 0, &mut gate)?;
+    Ok(count > 0 && gate[0] != 1)
+}
+
 // Reads the front of a slot, as far as the slot or the buffer goes, and says how much that is.
 fn read_front<L: Slots>(slots: &mut L, slot: u8, front: &mut [u8]) -> Result<usize, Failed>
     requires slot { slot < 2 }
@@ -38,6 +53,7 @@ fn read_front<L: Slots>(slots: &mut L, slot: u8, front: &mut [u8]) -> Result<usi
     ensures within { IfOk result (λ len. len ≤ length front.old) }
     ensures bytes { IfOk result (λ len. WhereTold (λ t. take len front.new ≡ take (length front.old) (slot_of slot t).bytes) (L.told slots.old)) }
     ensures told { L.told slots.new ≡ L.told slots.old }
+    ensures past { L.past slots.new ≡ L.past slots.old }
     ensures cause { Cause (IsErr result) (L.faults slots.old) (L.faults slots.new) }
 {
     let mut done = 0;
@@ -69,6 +85,7 @@ fn reaches<L: Slots>(slots: &mut L, slot: u8, end: u64) -> Result<bool, Failed>
     requires some { 0 < end }
     ensures reaches { IfOk result (λ r. WhereTold (λ t. IsTrue r ↔ (end ≤ length (slot_of slot t).bytes)) (L.told slots.old)) }
     ensures told { L.told slots.new ≡ L.told slots.old }
+    ensures past { L.past slots.new ≡ L.past slots.old }
     ensures cause { Cause (IsErr result) (L.faults slots.old) (L.faults slots.new) }
 {
     let mut last = [0u8; 1];

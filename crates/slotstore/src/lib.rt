@@ -1,5 +1,7 @@
 //! Two slots as a store of one body, that a torn write can't lose.
 //!
+//! - [`Store`] begins on two slots and saves to them, so that a crash at any moment leaves the body last saved or one handed in
+//!   since.
 //! - [`save`] writes a body to the slot that is not the newer one, so that the newer one stays until the new one is whole.
 //!
 //! A slot is a gate (1 is open), a number from 0 to 2, the body's length in eight bytes, the highest first, and the body.
@@ -8,9 +10,12 @@
 
 mod header;
 mod newer;
+mod replacing;
 mod saving;
+mod store;
 
 pub use saving::save;
+pub use store::Store;
 
 #[cfg(test)]
 mod tests;

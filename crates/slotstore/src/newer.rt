@@ -21,6 +21,7 @@ pub(crate) fn choose<L: Slots>(slots: &mut L) -> Result<Target, Failed>
     ensures number { IfOk result (λ r. WhereTold (λ t. r.number ≡ target_number t) (L.told slots.old)) }
     ensures is_slot { IfOk result (λ r. r.slot < 2) }
     ensures told { L.told slots.new ≡ L.told slots.old }
+    ensures past { L.past slots.new ≡ L.past slots.old }
     ensures cause { Cause (IsErr result) (L.faults slots.old) (L.faults slots.new) }
 {
     let first = valid_number(slots, 0)?;

@@ -16,63 +16,64 @@ use Rattle.treebook.proofs.CountLemmas.{counts_closed, counts_split, none_open_c
 -- what the fields are once a node is closed
 pub record IsClosedIn (a : Inside) (more : List Node) : Type 0 where
   pub some : 1 ≤ a.open_count
-  pub is_table : IsTable a.n more
+  pub is_table : IsTable a.n a.fixed.items more
   pub counts : HasCounts more (a.open_count - 1) (a.settled_count + 1)
   pub none_before : NoneOpen more 0 a.front
 
 pub closed_in : (a : Inside) (t : Table) (more : List Node) (k : ℕ) (c : Closing) → table_of a ≡ t → IsWellKept a
-    → IsOpen t.nodes k → Fits t.n (path_at t.nodes k) c → more ≡ closed_at (nodes_of a.nodes.items) k c → IsClosedIn a more
+    → IsOpen t.nodes k → Fits t.n (path_at t.fixed t.nodes k) c → more ≡ closed_at (nodes_of a.nodes.items) k c → IsClosedIn a more
 closed_in a t more k c view kept o f e =
     let nodes = nodes_of a.nodes.items in
     let is_open : IsOpen nodes k = subst (λ (x : Table). IsOpen x.nodes k) (sym view) o in
-    let fits : Fits a.n (path_at nodes k) c = subst (λ (x : Table). Fits x.n (path_at x.nodes k) c) (sym view) f in
-    let counts = counts_closed a.n nodes more k c a.open_count a.settled_count e kept.is_table is_open fits kept.counts in
+    let fits : Fits a.n (path_at a.fixed.items nodes k) c = subst (λ (x : Table). Fits x.n (path_at x.fixed x.nodes k) c) (sym view) f in
+    let counts = counts_closed a.n a.fixed.items nodes more k c a.open_count a.settled_count e kept.is_table is_open fits kept.counts in
     record {
       some = counts.0;
-      is_table = subst (IsTable a.n) (sym e) (closing_keeps_tables a.n nodes k c kept.is_table is_open fits).is_table;
+      is_table = subst (IsTable a.n a.fixed.items) (sym e) (closing_keeps_tables a.n a.fixed.items nodes k c kept.is_table is_open fits).is_table;
       counts = counts.1;
       none_before = none_open_closed nodes more k c a.front e is_open kept.front;
     }
 
 pub closed_keeps : ClosingKeepsCovers → ClosingKeepsSound → (a : Inside) (t : Table) (more : List Node) (k : ℕ) (c : Closing) → table_of a ≡ t → IsWellKept a
-    → IsOpen t.nodes k → Fits t.n (path_at t.nodes k) c → more ≡ closed_at (nodes_of a.nodes.items) k c
-    → (i : Instance) (l : ℕ) → i.n ≡ t.n → 3 ≤ i.n → needed l <ℤ (bound i (path_at t.nodes k) c) → KeepsTree i l t.nodes more
-closed_keeps covers sound a t more k c view kept o f e i l cities many q =
+    → IsOpen t.nodes k → Fits t.n (path_at t.fixed t.nodes k) c → more ≡ closed_at (nodes_of a.nodes.items) k c
+    → (i : Instance) (l : ℕ) → i.n ≡ t.n → i.fixed ≡ t.fixed → 3 ≤ i.n → needed l <ℤ (bound i (path_at t.fixed t.nodes k) c) → KeepsTree i l t.nodes more
+closed_keeps covers sound a t more k c view kept o f e i l cities same many q =
     let now : more ≡ closed_at t.nodes k c = e ∙ ap (λ (x : Table). closed_at x.nodes k c) view in
-    let table : IsTable t.n t.nodes = subst (λ (x : Table). IsTable x.n x.nodes) view kept.is_table in
-    let table_i : IsTable i.n t.nodes = subst (λ (n : ℕ). IsTable n t.nodes) (sym cities) table in
-    let fits_i : Fits i.n (path_at t.nodes k) c = subst (λ (n : ℕ). Fits n (path_at t.nodes k) c) (sym cities) f in
+    let table : IsTable t.n t.fixed t.nodes = subst (λ (x : Table). IsTable x.n x.fixed x.nodes) view kept.is_table in
+    let table_i : IsTable i.n i.fixed t.nodes = subst (λ (ps : List (ℕ × ℕ)). IsTable i.n ps t.nodes) (sym same) (subst (λ (n : ℕ). IsTable n t.fixed t.nodes) (sym cities) table) in
+    let fits_i : Fits i.n (path_at i.fixed t.nodes k) c = subst (λ (ps : List (ℕ × ℕ)). Fits i.n (path_at ps t.nodes k) c) (sym same) (subst (λ (n : ℕ). Fits n (path_at t.fixed t.nodes k) c) (sym cities) f) in
+    let enough : needed l <ℤ (bound i (path_at i.fixed t.nodes k) c) = subst (λ (ps : List (ℕ × ℕ)). needed l <ℤ (bound i (path_at ps t.nodes k) c)) (sym same) q in
     subst (KeepsTree i l t.nodes) (sym now) (record {
-      covers = covers i t.nodes k c l many table_i o fits_i q;
-      sound = sound i t.nodes k c l table_i o fits_i q;
+      covers = covers i t.nodes k c l many table_i o fits_i enough;
+      sound = sound i t.nodes k c l table_i o fits_i enough;
     })
 
 -- what they are once a node is split
 pub record IsSplitIn (a : Inside) (more : List Node) : Type 0 where
-  pub is_table : IsTable a.n more
+  pub is_table : IsTable a.n a.fixed.items more
   pub counts : HasCounts more (a.open_count + 1) (a.settled_count + 1)
   pub none_before : NoneOpen more 0 a.front
 
 pub split_in : (a : Inside) (t : Table) (more : List Node) (k : ℕ) (b : Branch) → table_of a ≡ t → IsWellKept a
-    → IsOpen t.nodes k → MaySplit t.n (path_at t.nodes k) b → more ≡ split_at (nodes_of a.nodes.items) k b → IsSplitIn a more
+    → IsOpen t.nodes k → MaySplit t.n (path_at t.fixed t.nodes k) b → more ≡ split_at (nodes_of a.nodes.items) k b → IsSplitIn a more
 split_in a t more k b view kept o f e =
     let nodes = nodes_of a.nodes.items in
     let is_open : IsOpen nodes k = subst (λ (x : Table). IsOpen x.nodes k) (sym view) o in
-    let fits : MaySplit a.n (path_at nodes k) b = subst (λ (x : Table). MaySplit x.n (path_at x.nodes k) b) (sym view) f in
+    let fits : MaySplit a.n (path_at a.fixed.items nodes k) b = subst (λ (x : Table). MaySplit x.n (path_at x.fixed x.nodes k) b) (sym view) f in
     record {
-      is_table = subst (IsTable a.n) (sym e) (splitting_keeps_tables a.n nodes k b kept.is_table is_open fits).is_table;
-      counts = counts_split a.n nodes more k b a.open_count a.settled_count e kept.is_table is_open fits kept.counts;
+      is_table = subst (IsTable a.n a.fixed.items) (sym e) (splitting_keeps_tables a.n a.fixed.items nodes k b kept.is_table is_open fits).is_table;
+      counts = counts_split a.n a.fixed.items nodes more k b a.open_count a.settled_count e kept.is_table is_open fits kept.counts;
       none_before = none_open_split nodes more k b a.front e is_open kept.front;
     }
 
 pub split_keeps : SplittingKeepsCovers → SplittingKeepsSound → (a : Inside) (t : Table) (more : List Node) (k : ℕ) (b : Branch) → table_of a ≡ t → IsWellKept a
-    → IsOpen t.nodes k → MaySplit t.n (path_at t.nodes k) b → more ≡ split_at (nodes_of a.nodes.items) k b
-    → (i : Instance) (l : ℕ) → i.n ≡ t.n → KeepsTree i l t.nodes more
-split_keeps covers sound a t more k b view kept o f e i l cities =
+    → IsOpen t.nodes k → MaySplit t.n (path_at t.fixed t.nodes k) b → more ≡ split_at (nodes_of a.nodes.items) k b
+    → (i : Instance) (l : ℕ) → i.n ≡ t.n → i.fixed ≡ t.fixed → KeepsTree i l t.nodes more
+split_keeps covers sound a t more k b view kept o f e i l cities same =
     let now : more ≡ split_at t.nodes k b = e ∙ ap (λ (x : Table). split_at x.nodes k b) view in
-    let table : IsTable t.n t.nodes = subst (λ (x : Table). IsTable x.n x.nodes) view kept.is_table in
-    let table_i : IsTable i.n t.nodes = subst (λ (n : ℕ). IsTable n t.nodes) (sym cities) table in
-    let fits_i : MaySplit i.n (path_at t.nodes k) b = subst (λ (n : ℕ). MaySplit n (path_at t.nodes k) b) (sym cities) f in
+    let table : IsTable t.n t.fixed t.nodes = subst (λ (x : Table). IsTable x.n x.fixed x.nodes) view kept.is_table in
+    let table_i : IsTable i.n i.fixed t.nodes = subst (λ (ps : List (ℕ × ℕ)). IsTable i.n ps t.nodes) (sym same) (subst (λ (n : ℕ). IsTable n t.fixed t.nodes) (sym cities) table) in
+    let fits_i : MaySplit i.n (path_at i.fixed t.nodes k) b = subst (λ (ps : List (ℕ × ℕ)). MaySplit i.n (path_at ps t.nodes k) b) (sym same) (subst (λ (n : ℕ). MaySplit n (path_at t.fixed t.nodes k) b) (sym cities) f) in
     subst (KeepsTree i l t.nodes) (sym now) (record {
       covers = covers i t.nodes k b l table_i o fits_i;
       sound = sound i t.nodes k b l table_i o fits_i;

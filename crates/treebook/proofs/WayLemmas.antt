@@ -1,8 +1,9 @@
-use Rattle.std.proofs.Common.{◌≡◌, ℕ, zero, suc, ◌<◌, ◌≤◌, true, ◌||◌, List, [], ◌∷◌, ◌++◌, length, map, refl, sym, ◌∙◌, ap, subst, arith, ◌⊎◌, inl, inr, ⊎_elim, eq-eqb}
+use Rattle.std.proofs.Common.{◌≡◌, ℕ, zero, suc, ◌<◌, ◌≤◌, true, ◌||◌, List, [], ◌∷◌, ◌++◌, length, map, refl, sym, ◌∙◌, ap, subst, arith, ◌⊎◌, inl, inr, ⊎_elim, eq-eqb, append_assoc}
 use Rattle.std.specs.Prelude.{◌==◌}
 use Rattle.std.proofs.lemmas.Bool.{cases_eq, cond-true, cond-false, ne_eqb, eqb-true, or_cases, or_left, or_right, false≢true}
 use Rattle.std.proofs.lemmas.List.{map-append}
 use Rattle.tspdef.specs.Sets.{has}
+use Rattle.tspdef.specs.Paths.{Condition, fixed_conditions}
 use Rattle.treebook.specs.Tables.{Node, parent_at, own_condition, side_at, way_within, way, path_at, sides_of}
 
 -- each node but the root is behind its parent
@@ -49,8 +50,10 @@ pub map_step : {A : Type 0} (f : ℕ → A) (nodes : List Node) (k : ℕ) → Ar
 map_step f nodes k b p m = ap (map f) (way_step nodes k b p m) ∙ map-append f (way nodes (parent_at nodes k)) (k ∷ [])
 
 -- the path of a node is that of its parent, and its own condition
-pub path_step : (nodes : List Node) (k : ℕ) → AreBehind nodes → 0 < k → k < length nodes → path_at nodes k ≡ path_at nodes (parent_at nodes k) ++ own_condition nodes k ∷ []
-path_step nodes k b p m = map_step (own_condition nodes) nodes k b p m
+pub path_step : (fixed : List (ℕ × ℕ)) (nodes : List Node) (k : ℕ) → AreBehind nodes → 0 < k → k < length nodes → path_at fixed nodes k ≡ path_at fixed nodes (parent_at nodes k) ++ own_condition nodes k ∷ []
+path_step fixed nodes k b p m =
+    ap (λ (cs : List Condition). fixed_conditions fixed ++ cs) (map_step (own_condition nodes) nodes k b p m)
+    ∙ sym (append_assoc (fixed_conditions fixed) (map (own_condition nodes) (way nodes (parent_at nodes k))) (own_condition nodes k ∷ []))
 
 pub sides_step : (nodes : List Node) (k : ℕ) → AreBehind nodes → 0 < k → k < length nodes → sides_of nodes k ≡ sides_of nodes (parent_at nodes k) ++ side_at nodes k ∷ []
 sides_step nodes k b p m = map_step (side_at nodes) nodes k b p m

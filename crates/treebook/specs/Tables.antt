@@ -1,8 +1,10 @@
 -- A search tree as a table: a list of nodes, the root first, each with the number of the node above it and its state.
 -- The two children of a split are two numbers that follow each other.
 use Rattle.std.specs.Prelude.{◌≡◌, ◌≢◌, ℕ, ◌+◌, ◌<◌, ◌≤◌, zero, suc, Bool, true, false, cond, ◌==◌, ◌||◌, List, [], ◌∷◌, ◌++◌, length, map, slice_index_or, slice_set}
+use Rattle.std.specs.List.{AllByRecursion}
 use Rattle.tspdef.specs.Sets.{IsProper}
-use Rattle.tspdef.specs.Paths.{Condition, absent, present, two, four, is_decided, IsPair}
+use Rattle.tspdef.specs.Fixed.{AreRisingPairs}
+use Rattle.tspdef.specs.Paths.{Condition, absent, present, two, four, is_decided, IsPair, fixed_conditions}
 use Rattle.tspdef.specs.Closings.{Closing, Fits}
 use Rattle.tspdef.specs.Trees.{Tree, open_leaf, closed_leaf, edge_split, clique_split, Side, first, second}
 
@@ -74,9 +76,9 @@ way_within (suc fuel) nodes k = cond (k == 0) [] (way_within fuel nodes (parent_
 abbrev pub way : List Node → ℕ → List ℕ
 way nodes k = way_within k nodes k
 
--- the path of a node: the conditions on the way to it
-abbrev pub path_at : List Node → ℕ → List Condition
-path_at nodes k = map (own_condition nodes) (way nodes k)
+-- the path of a node: the fixed pairs, and the conditions on the way to it
+abbrev pub path_at : List (ℕ × ℕ) → List Node → ℕ → List Condition
+path_at fixed nodes k = fixed_conditions fixed ++ map (own_condition nodes) (way nodes k)
 
 -- the place of a node in the tree
 abbrev pub sides_of : List Node → ℕ → List Side
@@ -122,7 +124,7 @@ pub record IsAbove (nodes : List Node) (k parent : ℕ) (c : Condition) : Type 0
   pub behind : parent < k
   pub own : c ≡ own_condition nodes k
   pub way : way nodes k ≡ way nodes parent ++ k ∷ []
-  pub path : path_at nodes k ≡ path_at nodes parent ++ c ∷ []
+  pub path : (fixed : List (ℕ × ℕ)) → path_at fixed nodes k ≡ path_at fixed nodes parent ++ c ∷ []
 
 -- a node with this path may be split by an undecided pair or a proper set
 abbrev pub MaySplit : ℕ → List Condition → Branch → Type 0
@@ -137,16 +139,22 @@ pub record HasChildren (nodes : List Node) (k child : ℕ) : Type 0 where
   pub other : parent_at nodes (child + 1) ≡ k
 
 -- a closed node has a closing that fits there, a split one an undecided pair or a proper set, and two children
-abbrev pub IsStateOf : ℕ → List Node → ℕ → State → Type 0
-IsStateOf n nodes k open_node = Unit {0}
-IsStateOf n nodes k (closed_node c) = Fits n (path_at nodes k) c
-IsStateOf n nodes k (split_node b child) = MaySplit n (path_at nodes k) b × HasChildren nodes k child
+abbrev pub IsStateOf : ℕ → List (ℕ × ℕ) → List Node → ℕ → State → Type 0
+IsStateOf n fixed nodes k open_node = Unit {0}
+IsStateOf n fixed nodes k (closed_node c) = Fits n (path_at fixed nodes k) c
+IsStateOf n fixed nodes k (split_node b child) = MaySplit n (path_at fixed nodes k) b × HasChildren nodes k child
 
--- a table of a tree over n cities
-pub record IsTable (n : ℕ) (nodes : List Node) : Type 0 where
+-- pairs u < v of n cities, strictly rising
+pub record ArePairs (n : ℕ) (fixed : List (ℕ × ℕ)) : Type 0 where
+  pub below : AllByRecursion (λ p. (p.0 < p.1) × (p.1 < n)) fixed
+  pub rising : AreRisingPairs fixed
+
+-- a table of a tree over n cities, on whose paths these pairs are fixed
+pub record IsTable (n : ℕ) (fixed : List (ℕ × ℕ)) (nodes : List Node) : Type 0 where
+  pub pairs : ArePairs n fixed
   pub some : 0 < length nodes
   pub parents : (k : ℕ) → 0 < k → k < length nodes → IsBelowParent nodes k
-  pub states : (k : ℕ) → k < length nodes → IsStateOf n nodes k (state_at nodes k)
+  pub states : (k : ℕ) → k < length nodes → IsStateOf n fixed nodes k (state_at nodes k)
 
 -- k is an open node of the table
 pub record IsOpen (nodes : List Node) (k : ℕ) : Type 0 where

@@ -10,9 +10,10 @@ use Rattle.treebook.specs.declared.node.NodeState as states
 use Rattle.treebook.specs.declared.node.NodeState.TheVariants as state
 use Rattle.treebook.specs.declared.node.Node as nodes
 
--- a tree over n cities, its nodes by their numbers, and how many more it has room for
+-- a tree over n cities, the fixed pairs of its root, its nodes by their numbers, and how many more it has room for
 pub record Table : Type 0 where
   pub n : ℕ
+  pub fixed : List (ℕ × ℕ)
   pub nodes : List defs.Node
   pub room : ℕ
 

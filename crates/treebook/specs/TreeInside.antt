@@ -6,7 +6,7 @@ use Rattle.treebook.specs.Tree.{Table, nodes_of}
 use Rattle.treebook.specs.declared.tree.Tree.TheInside.{Inside}
 
 abbrev pub table_of : Inside → Table
-table_of t = record { n = t.n; nodes = nodes_of t.nodes.items; room = t.room }
+table_of t = record { n = t.n; fixed = t.fixed.items; nodes = nodes_of t.nodes.items; room = t.room }
 
 -- how many nodes of the table are open, and how many settled
 pub record HasCounts (nodes : List Node) (open_count settled_count : ℕ) : Type 0 where
@@ -22,7 +22,7 @@ pub record IsFront (nodes : List Node) (k : ℕ) : Type 0 where
 
 -- a table with its counts and its first open node, and with memory for the nodes that it has room for
 pub record IsWellKept (t : Inside) : Type 0 where
-  pub is_table : IsTable t.n (nodes_of t.nodes.items)
+  pub is_table : IsTable t.n t.fixed.items (nodes_of t.nodes.items)
   pub counts : HasCounts (nodes_of t.nodes.items) t.open_count t.settled_count
   pub front : IsFront (nodes_of t.nodes.items) t.front
   pub room : vec_len t.nodes + t.room ≤ vec_capacity t.nodes

@@ -65,3 +65,20 @@ fn duals_close_the_triangle(rt: HostRuntime) -> Result<(), Fail> {
     assert!(rt; matches!(tree.state(0), State::Closed(_)));
     Ok(())
 }
+
+#[test]
+fn paths_begin_with_the_fixed_pairs(rt: HostRuntime) -> Result<(), Fail> {
+    let alloc = rt.alloc();
+    let mut tree = Tree::with_fixed(alloc, 4, &[(0, 3), (1, 2)])?;
+    tree.reserve(alloc, 2)?;
+    assert!(rt; tree.fixed() == [(0, 3), (1, 2)].as_slice());
+    assert!(rt; tree.decided_at(0, 2, 1));
+    assert!(rt; !tree.decided_at(0, 0, 2));
+    tree.split(0, Branch::Edge(0, 2));
+    let path = tree.path_of(alloc, 1)?;
+    assert!(rt;
+        path.conditions() == [Cond::Fixed(0, 3), Cond::Fixed(1, 2), Cond::Absent(0, 2)].as_slice()
+    );
+    assert!(rt; tree.decided_at(1, 3, 0));
+    Ok(())
+}

@@ -6,7 +6,7 @@ ghost use Rattle.tspdef.specs.Closings as closings;
 ghost use Rattle.tspdef.specs.Bounds.{bound, needed};
 ghost use Rattle.tspdef.specs.Trees.{open_leaves, settled};
 ghost use Rattle.treebook.specs.Tables as defs;
-ghost use Rattle.treebook.specs.Tables.{IsAbove, IsTable, IsOpen, NoneOpen, IsLeastOpen, MaySplit, fresh, state_at, path_at, tree_of, with_state, closed_at, split_at};
+ghost use Rattle.treebook.specs.Tables.{IsAbove, ArePairs, IsTable, IsOpen, NoneOpen, IsLeastOpen, MaySplit, fresh, state_at, path_at, tree_of, with_state, closed_at, split_at};
 ghost use Rattle.treebook.specs.Laws.{KeepsTree};
 ghost use Rattle.pricer.specs.Trails.{condition_of};
 ghost use Rattle.treebook.specs.Tree.{Table, branch_of, state_of, node_of, nodes_of, shown};
@@ -19,10 +19,12 @@ use std::alloc::{AllocError, Global};
 use std::marker::Model;
 
 /// A search tree over n cities: nodes that are open, closed or split, numbered in the order in which they came, the root
-/// 0. Contracts see n, the nodes as a table, and the room: for how many more nodes there is memory.
+/// 0. Each path begins with the fixed pairs. Contracts see n, these pairs, the nodes as a table, and the room: for how many
+/// more nodes there is memory.
 #[derive(Drop)]
 pub struct Tree {
     n: u32,
+    fixed: Vec<(u32, u32)>,
     nodes: Vec<Node>,
     room: u32,
     open_count: u32,
@@ -44,14 +46,23 @@ impl Model for Tree {
 }
 
 impl Tree {
-    /// The tree of one open node, with no room.
+    /// The tree of one open node, with no room, where no pair is fixed.
     pub fn new(alloc: Global, n: u32) -> Result<Tree, AllocError>
-        ensures { IfOk result (λ tree. tree ≡ record { n = n; nodes = fresh; room = 0 }) }
+        ensures { IfOk result (λ tree. tree ≡ record { n = n; fixed = []; nodes = fresh; room = 0 }) }
+    {
+        Tree::with_fixed(alloc, n, &[])
+    }
+
+    /// The tree of one open node, with no room, where these pairs are fixed.
+    pub fn with_fixed(alloc: Global, n: u32, fixed: &[(u32, u32)]) -> Result<Tree, AllocError>
+        requires { ArePairs n fixed.now }
+        ensures { IfOk result (λ tree. tree ≡ record { n = n; fixed = fixed.now; nodes = fresh; room = 0 }) }
     {
         let mut nodes = Vec::with_capacity(alloc, 1)?;
         put(&mut nodes, open_under(0));
         Ok(Tree {
             n,
+            fixed: Vec::from_slice(alloc, fixed)?,
             nodes,
             room: 0,
             open_count: 1,
@@ -76,10 +87,10 @@ impl Tree {
     /// Closes an open node by a closing that fits there.
     pub fn close(&mut self, node: u32, closing: Closing)
         requires is_open { IsOpen self.old.nodes node }
-        requires fits { closings.Fits self.old.n (path_at self.old.nodes node) closing }
+        requires fits { closings.Fits self.old.n (path_at self.old.fixed self.old.nodes node) closing }
         ensures table { self.new ≡ record self.old { nodes = closed_at self.old.nodes node closing } }
-        ensures keeps { (i : Instance) (l : ℕ) → i.n ≡ self.old.n → 3 ≤ i.n
-            → needed l <ℤ (bound i (path_at self.old.nodes node) closing)
+        ensures keeps { (i : Instance) (l : ℕ) → i.n ≡ self.old.n → i.fixed ≡ self.old.fixed → 3 ≤ i.n
+            → needed l <ℤ (bound i (path_at self.old.fixed self.old.nodes node) closing)
             → KeepsTree i l self.old.nodes self.new.nodes }
     {
         tables_cover();
@@ -95,13 +106,13 @@ impl Tree {
     /// crossed four times or more.
     pub fn split(&mut self, node: u32, branch: Branch)
         requires is_open { IsOpen self.old.nodes node }
-        requires fits { MaySplit self.old.n (path_at self.old.nodes node) (branch_of branch) }
+        requires fits { MaySplit self.old.n (path_at self.old.fixed self.old.nodes node) (branch_of branch) }
         requires room { 2 ≤ self.old.room }
         ensures table { self.new ≡ record self.old {
           nodes = split_at self.old.nodes node (branch_of branch);
           room = self.old.room - 2;
         } }
-        ensures keeps { (i : Instance) (l : ℕ) → i.n ≡ self.old.n
+        ensures keeps { (i : Instance) (l : ℕ) → i.n ≡ self.old.n → i.fixed ≡ self.old.fixed
             → KeepsTree i l self.old.nodes self.new.nodes }
     {
         tables_cover();
@@ -162,10 +173,17 @@ impl Tree {
     /// Of how many cities it is: the nodes are a table of a tree over so many, and each node has a path.
     pub fn n(&self) -> u32
         ensures value { result ≡ self.now.n }
-        ensures is_table { IsTable result self.now.nodes }
-        ensures paths { (k : ℕ) → k < length self.now.nodes → IsPath result (path_at self.now.nodes k) }
+        ensures is_table { IsTable result self.now.fixed self.now.nodes }
+        ensures paths { (k : ℕ) → k < length self.now.nodes → IsPath result (path_at self.now.fixed self.now.nodes k) }
     {
         self.n
+    }
+
+    /// The fixed pairs, the lower city first, rising.
+    pub fn fixed(&self) -> &[(u32, u32)]
+        ensures { result.now ≡ self.now.fixed }
+    {
+        &self.fixed
     }
 
     /// The node above one, and the condition by which they differ. None is above the root.

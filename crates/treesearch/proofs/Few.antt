@@ -2,7 +2,7 @@
 use Rattle.std.proofs.Common.{◌≡◌, ℕ, zero, suc, ◌+◌, ◌*◌, ◌<◌, ◌≤◌, Bool, List, [], ◌∷◌, ◌++◌, ℤ, arith, ◌⊎◌, inl, inr}
 use Rattle.std.proofs.Math.Nat.{mul-le-mul_left}
 use Rattle.tspdef.specs.Instances.{Instance}
-use Rattle.tspdef.specs.Paths.{Condition, absent, present, is_decided}
+use Rattle.tspdef.specs.Paths.{Condition, absent, present, is_decided, root}
 use Rattle.tspdef.specs.Trees.{Tree, open_leaf, closed_leaf, edge_split, clique_split, IsSound, open_leaves, settled}
 use Rattle.tspdef.specs.Bounds.{needed}
 use Rattle.treebook.specs.Tables.{tree_of}
@@ -46,5 +46,5 @@ none_open budget opened done all enough which = elim which [ inl e ↦ e | inr e
 pub few_cities_end : FewCitiesEnd
 few_cities_end i budget s few enough found ended =
     let t = tree_of s.tree.nodes in
-    let small : settled t + open_leaves t ≤ most 10 = few_nodes i (opening_length i) (needed s.length) 10 [] t (omega arith) (pairs_few (is_decided []) i.n few) found.split_by found.search.sound in
+    let small : settled t + open_leaves t ≤ most 10 = few_nodes i (opening_length i) (needed s.length) 10 (root i) t (omega arith) (pairs_few (is_decided (root i)) i.n few) found.split_by found.search.sound in
     none_open budget (open_leaves t) (settled t) small enough ended

@@ -1,6 +1,6 @@
-use Rattle.std.proofs.Common.{◌≡◌, ◌==◌, ℕ, zero, suc, ◌+◌, ◌*◌, ◌^◌, ◌<◌, ◌≤◌, Bool, true, false, cond, List, [], ◌∷◌, ◌++◌, length, arith}
+use Rattle.std.proofs.Common.{◌≡◌, ◌==◌, ℕ, zero, suc, ◌+◌, ◌*◌, ◌^◌, ◌<◌, ◌≤◌, Bool, true, false, cond, List, [], ◌∷◌, ◌++◌, length, map, refl, arith}
 use Rattle.std.proofs.lemmas.List.{length-append, length-map}
-use Rattle.tspdef.specs.Paths.{Condition, absent, present, two, four}
+use Rattle.tspdef.specs.Paths.{Condition, fixed, absent, present, two, four, fixed_conditions}
 use Rattle.treebook.specs.Tables.{Node, way, way_within, parent_at, own_condition, path_at}
 use Rattle.worker.specs.Works.{cliques}
 use Rattle.tspdef.specs.Tours.{walk, steps, travelled}
@@ -26,7 +26,7 @@ tour_is_short i tour is e =
 -- so is the best tour of a search
 pub found_is_short : (i : Instance) (f : Found) → IsInstance i → IsSearch i f → f.length < 2 ^ 42
 found_is_short i f is found =
-    let s = tour_is_short i f.best is found.is_tour.all in
+    let s = tour_is_short i f.best is found.is_tour.is_tour.all in
     let l = found.long in
     omega arith
 
@@ -40,13 +40,26 @@ way_is_short : (fuel : ℕ) (nodes : List Node) (k : ℕ) → length (way_within
 way_is_short zero nodes k = omega arith
 way_is_short (suc fuel) nodes k = way_step fuel (k == 0) (way_within fuel nodes (parent_at nodes k)) k (way_is_short fuel nodes (parent_at nodes k))
 
--- a node's path has no more conditions than the node's number
-pub path_is_short : (nodes : List Node) (k : ℕ) → length (path_at nodes k) ≤ k
-path_is_short nodes k = let e : length (path_at nodes k) ≡ length (way nodes k) = length-map (way nodes k) (own_condition nodes) in let s = way_is_short k nodes k in omega arith
+-- a path has no more conditions on sets than conditions
+few_cliques : (path : List Condition) → cliques path ≤ length path
+few_cliques [] = omega arith
+few_cliques (fixed u v ∷ path) = let ih = few_cliques path in omega arith
+few_cliques (absent u v ∷ path) = let ih = few_cliques path in omega arith
+few_cliques (present u v ∷ path) = let ih = few_cliques path in omega arith
+few_cliques (two s ∷ path) = let ih = few_cliques path in omega arith
+few_cliques (four s ∷ path) = let ih = few_cliques path in omega arith
 
-pub cliques_are_few : (path : List Condition) → cliques path ≤ length path
-cliques_are_few [] = omega arith
-cliques_are_few (absent u v ∷ path) = let ih = cliques_are_few path in omega arith
-cliques_are_few (present u v ∷ path) = let ih = cliques_are_few path in omega arith
-cliques_are_few (two s ∷ path) = let ih = cliques_are_few path in omega arith
-cliques_are_few (four s ∷ path) = let ih = cliques_are_few path in omega arith
+-- and the fixed pairs are none of them
+behind_pairs : (pairs : List (ℕ × ℕ)) (path : List Condition) → cliques (fixed_conditions pairs ++ path) ≡ cliques path
+behind_pairs [] path = refl
+behind_pairs (p ∷ ps) path = behind_pairs ps path
+
+-- a node's path has no more conditions on sets than the node's number
+pub cliques_are_few : (pairs : List (ℕ × ℕ)) (nodes : List Node) (k : ℕ) → cliques (path_at pairs nodes k) ≤ k
+cliques_are_few pairs nodes k =
+    let own = map (own_condition nodes) (way nodes k) in
+    let b = behind_pairs pairs own in
+    let f = few_cliques own in
+    let e : length own ≡ length (way nodes k) = length-map (way nodes k) (own_condition nodes) in
+    let s = way_is_short k nodes k in
+    omega arith

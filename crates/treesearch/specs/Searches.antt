@@ -11,9 +11,11 @@ use Rattle.worker.specs.Splits.{Splits}
 use Rattle.treesearch.specs.Splits.{SplitBy}
 use Rattle.treesearch.specs.declared.searching.Found.{Found}
 
--- The tree is sound for the best tour's length, which is no longer than the opening length.
+-- The tree begins with the fixed pairs of the instance and is sound for the best tour's length, which is no longer than the opening
+-- length.
 pub record IsSearch (i : Instance) (s : Found) : Type 0 where
   pub cities : s.tree.n ≡ i.n
+  pub fixed : s.tree.fixed ≡ i.fixed
   pub is_tour : IsTourOf i s.best
   pub long : s.length ≡ length_in i s.best
   pub shorter : s.length ≤ opening_length i

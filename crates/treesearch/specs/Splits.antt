@@ -1,7 +1,7 @@
 -- By what the nodes of a tree were split.
 use Rattle.std.specs.Prelude.{ℕ, List, [], ◌∷◌, ◌++◌}
 use Rattle.tspdef.specs.Instances.{Instance}
-use Rattle.tspdef.specs.Paths.{Condition, absent, present, two, four}
+use Rattle.tspdef.specs.Paths.{Condition, absent, present, two, four, root}
 use Rattle.tspdef.specs.Trees.{Tree, open_leaf, closed_leaf, edge_split, clique_split}
 use Rattle.treebook.specs.Tables.{Branch, on_edge, on_clique}
 use Rattle.worker.specs.Splits.{Splits, IsNeededSplit}
@@ -15,7 +15,7 @@ AllSplits P path (clique_split s a b) = P path (on_clique s) × (AllSplits P (pa
 
 -- each split is one that may be for tours of length l
 abbrev pub SplitBy : Splits → Instance → ℕ → Tree → Type 0
-SplitBy S i l t = AllSplits (λ path b. S i path l b) [] t
+SplitBy S i l t = AllSplits (λ path b. S i path l b) (root i) t
 
 -- each split is needed for tours of length l
 abbrev pub SplitsAreNeeded : Instance → ℕ → Tree → Type 0

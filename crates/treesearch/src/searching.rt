@@ -1,6 +1,6 @@
 //! The search.
 ghost use Rattle.std.specs.Prelude.{◌≡◌, ℕ, ◌^◌, ◌<◌, ◌≤◌, true, length, min, IfOk, IfSome, OnOk};
-ghost use Rattle.tspdef.specs.Instances.{length_in};
+ghost use Rattle.tspdef.specs.Instances.{IsTourOf, length_in};
 ghost use Rattle.tspdef.specs.Trees.{settled};
 ghost use Rattle.treebook.specs.Tables.{IsOpen, MaySplit, path_at, fresh, closed_at, split_at, tree_of};
 ghost use Rattle.treebook.specs.Tree.{branch_of};
@@ -55,7 +55,7 @@ pub fn search<W: Worker>(
 }
 
 fn start(alloc: Global, instance: &Instance, best: Tour) -> Result<Found, AllocError>
-    requires cities { length best ≡ instance.now.n }
+    requires tour { IsTourOf instance.now best }
     requires no_longer { length_in instance.now best ≤ opening_length instance.now }
     ensures found { IfOk result (IsSearch instance.now) }
     ensures fresh { IfOk result (λ s. s.tree.nodes ≡ fresh) }
@@ -65,7 +65,7 @@ fn start(alloc: Global, instance: &Instance, best: Tour) -> Result<Found, AllocE
     let _whole = best.cities();
     let length = instance.length(&best);
     Ok(Found {
-        tree: Tree::new(alloc, instance.n())?,
+        tree: Tree::with_fixed(alloc, instance.n(), instance.fixed())?,
         best,
         length,
         effort: Effort::none(),
@@ -157,7 +157,7 @@ fn parts(work: Work) -> (Option<Tour>, Report, Effort)
 /// Keeps a tour that was found, if there is one, where it is shorter than the best so far.
 fn offer_found(instance: &Instance, found: &mut Found, tour: Option<Tour>)
     requires found { IsSearch instance.now found.old }
-    requires cities { IfSome tour (λ t. length t ≡ instance.now.n) }
+    requires is_tour { IfSome tour (IsTourOf instance.now) }
     ensures found { IsSearch instance.now found.new }
     ensures tree { found.new.tree ≡ found.old.tree }
     ensures least { found.new.length ≡ best_after instance.now found.old.length tour }
@@ -178,7 +178,7 @@ fn take(
     requires found { IsSearch instance.now found.old }
     requires node { IsOpen found.old.tree.nodes node }
     requires few { length found.old.tree.nodes ≤ 131073 }
-    requires report { IsReport instance.now (path_at found.old.tree.nodes node) found.old.length report }
+    requires report { IsReport instance.now (path_at found.old.tree.fixed found.old.tree.nodes node) found.old.length report }
     ensures found { OnOk result (IsSearch instance.now found.new) }
     ensures takes { OnOk result (Takes report node found.old.tree.nodes found.new.tree.nodes) }
     ensures same { OnOk result (found.new.length ≡ found.old.length) }
@@ -197,7 +197,7 @@ fn take(
 fn close(instance: &Instance, found: &mut Found, node: u32, closing: Closing)
     requires found { IsSearch instance.now found.old }
     requires node { IsOpen found.old.tree.nodes node }
-    requires closes { Closes instance.now (path_at found.old.tree.nodes node) found.old.length closing }
+    requires closes { Closes instance.now (path_at found.old.tree.fixed found.old.tree.nodes node) found.old.length closing }
     ensures found { IsSearch instance.now found.new }
     ensures takes { found.new.tree.nodes ≡ closed_at found.old.tree.nodes node closing }
     ensures same { found.new.length ≡ found.old.length }
@@ -220,7 +220,7 @@ fn split(
     requires found { IsSearch instance.now found.old }
     requires node { IsOpen found.old.tree.nodes node }
     requires few { length found.old.tree.nodes ≤ 131073 }
-    requires branch { MaySplit instance.now.n (path_at found.old.tree.nodes node) (branch_of branch) }
+    requires branch { MaySplit instance.now.n (path_at found.old.tree.fixed found.old.tree.nodes node) (branch_of branch) }
     ensures found { OnOk result (IsSearch instance.now found.new) }
     ensures takes { OnOk result (found.new.tree.nodes ≡ split_at found.old.tree.nodes node (branch_of branch)) }
     ensures same { OnOk result (found.new.length ≡ found.old.length) }
@@ -237,7 +237,7 @@ fn split(
 /// Keeps a tour where it is shorter than the best so far.
 fn offer(instance: &Instance, found: &mut Found, tour: Tour)
     requires found { IsSearch instance.now found.old }
-    requires cities { length tour ≡ instance.now.n }
+    requires is_tour { IsTourOf instance.now tour }
     ensures found { IsSearch instance.now found.new }
     ensures tree { found.new.tree ≡ found.old.tree }
     ensures least { found.new.length ≡ min found.old.length (length_in instance.now tour) }

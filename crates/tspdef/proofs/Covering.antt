@@ -4,8 +4,9 @@ use Rattle.std.proofs.lemmas.Int.{ints}
 use Rattle.std.proofs.lemmas.Bool.{cases_lt, cases_Bool}
 use Rattle.tspdef.specs.Sets.{has, IsProper}
 use Rattle.tspdef.specs.Tours.{steps, has_step, crossings}
+use Rattle.tspdef.specs.Fixed.{AreSteps}
 use Rattle.tspdef.specs.Instances.{Instance, IsTourOf, length_in}
-use Rattle.tspdef.specs.Paths.{Condition, absent, present, two, four, Meets, Obeys, root}
+use Rattle.tspdef.specs.Paths.{Condition, absent, present, two, four, Meets, Obeys, fixed_conditions, root}
 use Rattle.tspdef.specs.Closings.{Closing, IsClosing}
 use Rattle.tspdef.specs.Bounds.{bound, needed}
 use Rattle.tspdef.specs.Trees.{Tree, open_leaf, closed_leaf, edge_split, clique_split, IsSound, open_leaves, ObeysAnOpenLeaf, Covers, Side, first, second, open_path, with_leaf}
@@ -32,7 +33,7 @@ edge_sides tour path u v o = ⊎_elim
 clique_sides : (i : Instance) (tour : List ℕ) (path : List Condition) (s : List ℕ) → IsTourOf i tour → IsProper i.n s → Obeys (steps tour) path
     → Obeys (steps tour) (path ++ two s ∷ []) ⊎ Obeys (steps tour) (path ++ four s ∷ [])
 clique_sides i tour path s t p o =
-    let law = subtour_law i.n tour s t p in ⊎_elim
+    let law = subtour_law i.n tour s t.is_tour p in ⊎_elim
     (λ e. inl (obeys_more (steps tour) path (two s) o e))
     (λ e. inr (obeys_more (steps tour) path (four s) o e))
     (two_or_four (crossings (has s) (steps tour)) law.0 law.1)
@@ -66,16 +67,24 @@ none_obeyed es path (clique_split s a b) z o = ⊎_elim
     (λ x. none_obeyed es (path ++ two s ∷ []) a (omega arith) x)
     (λ x. none_obeyed es (path ++ four s ∷ []) b (omega arith) x) o
 
+fixed_obeyed : (es : List (ℕ × ℕ)) (pairs : List (ℕ × ℕ)) → AreSteps es pairs → Obeys es (fixed_conditions pairs)
+fixed_obeyed es [] h = tt
+fixed_obeyed es (p ∷ ps) h = (h.0, fixed_obeyed es ps h.1)
+
+-- a tour of the instance obeys the path of the root
+pub root_obeyed : (i : Instance) (tour : List ℕ) → IsTourOf i tour → Obeys (steps tour) (root i)
+root_obeyed i tour is = fixed_obeyed (steps tour) i.fixed is.holds_fixed
+
 pub covered_is_least : CoveredIsLeast
-covered_is_least i t l z covers tour is = ⊎_elim (λ x. absurd (none_obeyed (steps tour) [] t z x)) (λ x. x) (covers tour is)
+covered_is_least i t l z covers tour is = ⊎_elim (λ x. absurd (none_obeyed (steps tour) (root i) t z x)) (λ x. x) (covers tour is)
 
 pub accepted_is_optimal : AcceptedIsOptimal
 accepted_is_optimal i tour other l t h acc is = ⊎_elim
-    (λ x. absurd (none_obeyed (steps other) [] t acc.none_open x)) (λ x. x)
-    (sound_below i l [] t other h is acc.sound tt)
+    (λ x. absurd (none_obeyed (steps other) (root i) t acc.none_open x)) (λ x. x)
+    (sound_below i l (root i) t other h is acc.sound (root_obeyed i other is))
 
 pub root_covers : RootCovers
-root_covers i l tour is = inl tt
+root_covers i l tour is = inl (root_obeyed i tour is)
 
 -- A tour that obeys an open leaf obeys one after a change at a place, where the change covers what obeys the leaf there.
 changed : (es : List (ℕ × ℕ)) (path : List Condition) (t : Tree) (sides : List Side) (leaf : List Condition) (new : Tree) (long : Type 0)
@@ -105,7 +114,7 @@ keeps : (i : Instance) (t : Tree) (sides : List Side) (leaf : List Condition) (n
     → ((tour : List ℕ) → IsTourOf i tour → Obeys (steps tour) leaf → ObeysAnOpenLeaf (steps tour) leaf new ⊎ (l ≤ length_in i tour))
     → Covers i t l → Covers i (with_leaf t sides new) l
 keeps i t sides leaf new l e k covers tour is = ⊎_elim
-    (λ o. changed (steps tour) [] t sides leaf new (l ≤ length_in i tour) e (k tour is) o)
+    (λ o. changed (steps tour) (root i) t sides leaf new (l ≤ length_in i tour) e (k tour is) o)
     (λ x. inr x)
     (covers tour is)
 

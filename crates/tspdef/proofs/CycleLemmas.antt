@@ -7,8 +7,9 @@ use Rattle.std.proofs.lemmas.Bool.{cases_lt, or_cases, or_parts, or_from, or_lef
 use Rattle.std.proofs.lemmas.Bool.Decides.{nat_tests}
 use Rattle.tspdef.specs.Sets.{has}
 use Rattle.tspdef.specs.Tours.{AreDistinct, IsTour, walk, steps, joins, has_step, travelled, crosses, crossings, last_city, IsCanonical, IsTurned, IsSameCycle}
+use Rattle.tspdef.specs.Fixed.{AreSteps}
 use Rattle.tspdef.specs.Instances.{Instance, dist}
-use Rattle.tspdef.specs.Paths.{Condition, absent, present, two, four, Meets}
+use Rattle.tspdef.specs.Paths.{Condition, fixed, absent, present, two, four, Meets}
 use Rattle.tspdef.specs.Laws.{IsSameTour, SameCycleIsSameTour, CanonicalFormExists, CanonicalFormIsOne}
 use Rattle.tspdef.proofs.Steps.{tour_has}
 use Rattle.tspdef.proofs.Duality.{dist-sym}
@@ -211,13 +212,18 @@ reversed_tour n tour t = record {
 -- ---- the same tour
 
 meets_same : (i : Instance) (es fs : List (ℕ × ℕ)) → AreSameSteps i es fs → (c : Condition) → Meets es c → Meets fs c
+meets_same i es fs p (fixed u v) m = p.joined u v ∙ m
 meets_same i es fs p (absent u v) m = p.joined u v ∙ m
 meets_same i es fs p (present u v) m = p.joined u v ∙ m
 meets_same i es fs p (two s) m = p.crossed (has s) ∙ m
 meets_same i es fs p (four s) m = let e = p.crossed (has s) in omega arith
 
-from_steps : (i : Instance) (tour other : List ℕ) → IsTour i.n other → AreSameSteps i (steps tour) (steps other) → IsSameTour i tour other
-from_steps i tour other t p = record { is_tour = t; long = p.long; crossed = p.crossed; joined = p.joined; meets = meets_same i (steps tour) (steps other) p }
+steps_kept : (i : Instance) (es fs : List (ℕ × ℕ)) → AreSameSteps i es fs → (pairs : List (ℕ × ℕ)) → AreSteps es pairs → AreSteps fs pairs
+steps_kept i es fs p [] h = tt
+steps_kept i es fs p (q ∷ qs) h = (p.joined q.0 q.1 ∙ h.0, steps_kept i es fs p qs h.1)
+
+from_steps : (i : Instance) (tour other : List ℕ) → AreSteps (steps tour) i.fixed → IsTour i.n other → AreSameSteps i (steps tour) (steps other) → IsSameTour i tour other
+from_steps i tour other f t p = record { is_tour = record { is_tour = t; holds_fixed = steps_kept i (steps tour) (steps other) p i.fixed f }; long = p.long; crossed = p.crossed; joined = p.joined; meets = meets_same i (steps tour) (steps other) p }
 
 turned_same : (i : Instance) (tour other : List ℕ) → IsTour i.n tour → IsTurned tour other → IsTour i.n other × AreSameSteps i (steps tour) (steps other)
 turned_same i tour other t (front, back, e, f) =
@@ -228,9 +234,9 @@ turned_same i tour other t (front, back, e, f) =
 
 pub same_cycle_is_same_tour : SameCycleIsSameTour
 same_cycle_is_same_tour i tour other t same = ⊎_elim
-    (λ turned. let p = turned_same i tour other t turned in from_steps i tour other p.0 p.1)
-    (λ turned. let p = turned_same i (reverse tour) other (reversed_tour i.n tour t) turned in
-    from_steps i tour other p.0 (same_trans i (steps tour) (steps (reverse tour)) (steps other) (reversed_steps i tour) p.1))
+    (λ turned. let p = turned_same i tour other t.is_tour turned in from_steps i tour other t.holds_fixed p.0 p.1)
+    (λ turned. let p = turned_same i (reverse tour) other (reversed_tour i.n tour t.is_tour) turned in
+    from_steps i tour other t.holds_fixed p.0 (same_trans i (steps tour) (steps (reverse tour)) (steps other) (reversed_steps i tour) p.1))
     same
 
 -- ---- the canonical form
@@ -336,12 +342,12 @@ begins (a ∷ b ∷ cs) c = (b ∷ cs, ap (λ k. k ∷ b ∷ cs) c.0)
 
 pub canonical_form_exists : CanonicalFormExists
 canonical_form_exists i tour h t =
-    let s = split_at tour 0 (tour_has i.n tour t 0 (omega arith)) in
+    let s = split_at tour 0 (tour_has i.n tour t.is_tour 0 (omega arith)) in
     let front = s.0 in
     let back = s.1 in
     let e = s.2 in
     let w = back ++ front in
-    let whole : IsTour i.n ((0 ∷ back) ++ front) = turned_tour i.n front (0 ∷ back) (subst (IsTour i.n) e t) in
+    let whole : IsTour i.n ((0 ∷ back) ++ front) = turned_tour i.n front (0 ∷ back) (subst (IsTour i.n) e t.is_tour) in
     let long : 2 ≤ length w = (let l = whole.all in omega arith) in ⊎_elim
     (λ c. (0 ∷ w, record { same = inl (front, 0 ∷ back, e, refl); canonical = c }))
     (λ c. (
@@ -355,12 +361,12 @@ canonical_form_exists i tour h t =
 
 pub canonical_form_is_one : CanonicalFormIsOne
 canonical_form_is_one i tour form other h t p q =
-    let s = split_at tour 0 (tour_has i.n tour t 0 (omega arith)) in
+    let s = split_at tour 0 (tour_has i.n tour t.is_tour 0 (omega arith)) in
     let w = s.1 ++ s.0 in
     let a = begins form p.canonical in
     let b = begins other q.canonical in
-    let ra = form_rest tour s.0 s.1 a.0 0 t.distinct s.2 (subst (IsSameCycle tour) a.1 p.same) in
-    let rb = form_rest tour s.0 s.1 b.0 0 t.distinct s.2 (subst (IsSameCycle tour) b.1 q.same) in
+    let ra = form_rest tour s.0 s.1 a.0 0 t.is_tour.distinct s.2 (subst (IsSameCycle tour) a.1 p.same) in
+    let rb = form_rest tour s.0 s.1 b.0 0 t.is_tour.distinct s.2 (subst (IsSameCycle tour) b.1 q.same) in
     let ca : IsCanonical (0 ∷ a.0) = subst IsCanonical a.1 p.canonical in
     let cb : IsCanonical (0 ∷ b.0) = subst IsCanonical b.1 q.canonical in
     let rest : a.0 ≡ b.0 = ⊎_elim

@@ -4,6 +4,7 @@ pub mod CrossingLemmas
 pub mod Combs
 pub mod Duality
 pub mod Covering
+pub mod RootLemmas
 pub mod Roots
 pub mod RayLemmas
 pub mod CycleLemmas

@@ -8,8 +8,8 @@ use Rattle.std.proofs.lemmas.Bool.{cases_lt, cases_Bool, cases_eq, eqb-true, ne_
 use Rattle.std.proofs.lemmas.Bool.Decides.{nat_tests}
 use Rattle.std.proofs.lemmas.List.{length-replicate, get_or-replicate, get_or-set_same, get_or-set_other, get_or_past}
 use Rattle.tspdef.specs.Sets.{has}
-use Rattle.tspdef.specs.Tours.{steps, has_step, travelled}
-use Rattle.tspdef.specs.Instances.{Instance, dist, IsTourOf, length_in}
+use Rattle.tspdef.specs.Tours.{IsTour, steps, has_step, travelled}
+use Rattle.tspdef.specs.Instances.{Instance, dist, length_in}
 use Rattle.tspdef.specs.Paths.{Condition, is_absent, is_present, DecidesAll}
 use Rattle.tspdef.specs.Closings.{Closing, Fits}
 use Rattle.tspdef.specs.Sums.{sum_below, sum_pairs}
@@ -182,7 +182,7 @@ scaled_steps i (e ∷ es) = let ih = scaled_steps i es in omega (arith, ints)
 tour_term : (p : Bool) (s : ℕ) (ca cb : ℤ) → ca ≡ pos 0 → cb ≡ pos 0 → cond p (pos s -ℤ ca -ℤ cb -ℤ pos 0 -ℤ pos 0) (pos 0) ≡ cond p (pos s) (pos 0)
 tour_term p s ca cb a b = let e : (pos s -ℤ ca -ℤ cb -ℤ pos 0 -ℤ pos 0) ≡ pos s = omega (arith, ints) in ap (λ x. cond p x (pos 0)) e
 
-tour_bound : (i : Instance) (path : List Condition) (best : ℕ) (tour : List ℕ) → 3 ≤ i.n → DecidesAll i.n path → IsTourOf i tour → AreStepsOf i.n path tour
+tour_bound : (i : Instance) (path : List Condition) (best : ℕ) (tour : List ℕ) → 3 ≤ i.n → DecidesAll i.n path → IsTour i.n tour → AreStepsOf i.n path tour
     → best ≤ length_in i tour → needed best <ℤ (bound i path (zero_closing i.n))
 tour_bound i path best tour h all is used short =
     let c = zero_closing i.n in

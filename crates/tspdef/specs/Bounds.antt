@@ -5,7 +5,7 @@ use Rattle.std.specs.Int.{int_min}
 use Rattle.tspdef.specs.Sums.{sum_below, sum_pairs}
 use Rattle.tspdef.specs.Instances.{Instance, dist}
 use Rattle.tspdef.specs.Cuts.{Cut, sets_of, right_side, coefficient}
-use Rattle.tspdef.specs.Paths.{Condition, absent, present, two, four, is_absent, is_present, condition_at}
+use Rattle.tspdef.specs.Paths.{Condition, fixed, absent, present, two, four, is_absent, is_present, condition_at}
 use Rattle.tspdef.specs.Closings.{Closing}
 
 -- how many units one length is
@@ -26,6 +26,7 @@ cut_rows (q ∷ qs) = at_least (sets_of q.0) (right_side q.0) q.1 ∷ cut_rows q
 abbrev pub condition_row : Option Condition → ℕ → Row
 condition_row (Some (two s)) z = exactly (s ∷ []) 2 z
 condition_row (Some (four s)) z = at_least (s ∷ []) 4 z
+condition_row (Some (fixed u v)) z = at_least [] 0 z
 condition_row (Some (absent u v)) z = at_least [] 0 z
 condition_row (Some (present u v)) z = at_least [] 0 z
 condition_row None z = at_least [] 0 z

@@ -1,11 +1,13 @@
 -- The laws that everything rests on.
-use Rattle.std.specs.Prelude.{◌≡◌, ℕ, ◌+◌, ◌*◌, ◌%◌, ◌^◌, ◌<◌, ◌≤◌, max, Bool, false, List, pos, ◌≤ℤ◌, ◌<ℤ◌, Some}
+use Rattle.std.specs.Prelude.{◌≡◌, ◌++◌, ℕ, ◌+◌, ◌*◌, ◌%◌, ◌^◌, ◌<◌, ◌≤◌, max, Bool, false, List, pos, ◌≤ℤ◌, ◌<ℤ◌, Some}
+use Rattle.std.specs.List.{AllByRecursion}
 use Rattle.tspdef.specs.Distances.{Rule, euclidean, rounded_up, pseudo_euclidean, manhattan, maximum, is_enough, root as root_of, squared, distance_apart, IsLeast}
 use Rattle.tspdef.specs.Sets.{has, IsProper}
-use Rattle.tspdef.specs.Tours.{steps, crossings, IsSameCycle, IsCanonicalForm, has_step}
+use Rattle.tspdef.specs.Tours.{IsTour, steps, crossings, IsSameCycle, IsCanonicalForm, has_step}
+use Rattle.tspdef.specs.Fixed.{AreRisingPairs}
 use Rattle.tspdef.specs.Instances.{Instance, IsTourOf, length_in}
 use Rattle.tspdef.specs.Cuts.{Cut, IsCut, HoldsOf, sets_of, right_side, coefficient}
-use Rattle.tspdef.specs.Paths.{Condition, Meets, Obeys, is_decided, IsPair, DecidesAll, root}
+use Rattle.tspdef.specs.Paths.{Condition, Meets, Obeys, is_decided, IsPair, DecidesAll, IsPath, branches, fixed_conditions, root}
 use Rattle.tspdef.specs.Closings.{Closing, Fits, IsClosing}
 use Rattle.tspdef.specs.Bounds.{scale, bound, needed}
 use Rattle.tspdef.specs.Rays.{IsRay, AreStepsOf}
@@ -58,6 +60,19 @@ abbrev pub AcceptedIsOptimal : Type 0
 AcceptedIsOptimal = (i : Instance) (tour other : List ℕ) (l : ℕ) (t : Tree) → 3 ≤ i.n → IsAccepted i tour l t
     → IsTourOf i other → l ≤ length_in i other
 
+-- Fixed pairs are a path: none is decided by those before it. And they have no depth: the conditions behind them are those of
+-- the path behind the root.
+pub record IsRootPath (n : ℕ) (pairs : List (ℕ × ℕ)) : Type 0 where
+  pub is_path : IsPath n (fixed_conditions pairs)
+  pub behind : (path : List Condition) → branches (fixed_conditions pairs ++ path) ≡ branches path
+
+abbrev pub RootsArePaths : Type 0
+RootsArePaths = (n : ℕ) (pairs : List (ℕ × ℕ)) → AllByRecursion (λ p. (p.0 < p.1) × (p.1 < n)) pairs → AreRisingPairs pairs → IsRootPath n pairs
+
+-- A tour of an instance obeys the path of its root.
+abbrev pub ToursObeyRoots : Type 0
+ToursObeyRoots = (i : Instance) (tour : List ℕ) → IsTourOf i tour → Obeys (steps tour) (root i)
+
 -- The tree of one open leaf covers every tour.
 abbrev pub RootCovers : Type 0
 RootCovers = (i : Instance) (l : ℕ) → Covers i open_leaf l
@@ -89,7 +104,7 @@ CoveredIsLeast = (i : Instance) (t : Tree) (l : ℕ) → open_leaves t ≡ 0 →
 -- the best is no longer than the used pairs where they are a tour.
 abbrev pub RaysClose : Type 0
 RaysClose = (i : Instance) (path : List Condition) (best : ℕ) (c : Closing) → 3 ≤ i.n → best < 2 ^ 42 → DecidesAll i.n path
-    → ((tour : List ℕ) → IsTourOf i tour → AreStepsOf i.n path tour → best ≤ length_in i tour)
+    → ((tour : List ℕ) → IsTour i.n tour → AreStepsOf i.n path tour → best ≤ length_in i tour)
     → IsRay i.n path best c → Fits i.n path c × (needed best <ℤ (bound i path c))
 
 -- Where a list of cities starts and in which direction it goes makes no difference to the tour that it is.

@@ -1,6 +1,7 @@
 pub mod Distances
 pub mod Sets
 pub mod Tours
+pub mod Fixed
 pub mod Instances
 pub mod Cuts
 pub mod Paths

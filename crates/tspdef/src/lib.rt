@@ -3,7 +3,7 @@
 //! laws over them, each the contract of a function here. There is no program code in this crate.
 #![tactic(auto)]
 
-ghost use Rattle.tspdef.specs.Laws.{RootsAreLeast, DistancesGoByRules, CrossingsAreEven, ToursMeetCuts, CutsAreSmall, BoundIsBelow, FittingIsClosing, AcceptedIsOptimal, RootCovers, EdgeSplitCovers, CliqueSplitCovers, ClosingCovers, CoveredIsLeast, RaysClose, SameCycleIsSameTour, CanonicalFormExists, CanonicalFormIsOne};
+ghost use Rattle.tspdef.specs.Laws.{RootsAreLeast, DistancesGoByRules, CrossingsAreEven, ToursMeetCuts, CutsAreSmall, BoundIsBelow, FittingIsClosing, AcceptedIsOptimal, RootsArePaths, ToursObeyRoots, RootCovers, EdgeSplitCovers, CliqueSplitCovers, ClosingCovers, CoveredIsLeast, RaysClose, SameCycleIsSameTour, CanonicalFormExists, CanonicalFormIsOne};
 
 /// The root that a rule takes of a squared distance is the least whole number that is enough for it.
 pub fn roots_are_least()
@@ -40,6 +40,12 @@ pub fn bound_is_below()
 /// Where a proof is accepted, no tour is shorter than its tour, whoever wrote the proof.
 pub fn accepted_is_optimal()
     ensures { AcceptedIsOptimal }
+{}
+
+/// The fixed pairs of an instance are a path, that of the root, whose conditions have no depths; every tour obeys it.
+pub fn roots_are_paths()
+    ensures paths { RootsArePaths }
+    ensures obeyed { ToursObeyRoots }
 {}
 
 /// A tree keeps covering every tour as it grows by splits and closings, and in the end makes a length a lower bound.

@@ -1,7 +1,7 @@
 use Rattle.std.proofs.Common.{◌≡◌, ℕ, ◌+◌, ◌-◌, ◌<◌, ◌≤◌, List, [], ◌∷◌, ◌++◌, refl, sym, ap, subst, ◌∙◌, arith}
 use Rattle.tspdef.specs.Tours.{IsCanonicalForm}
 use Rattle.tspdef.specs.Instances.{Instance, IsInstance, IsTourOf, length_in}
-use Rattle.tspdef.specs.Paths.{Condition, absent, present, two, four}
+use Rattle.tspdef.specs.Paths.{Condition, root, absent, present, two, four}
 use Rattle.tspdef.specs.Trees.{Tree, open_leaf, closed_leaf, edge_split, clique_split, IsSoundFor, open_leaves, settled}
 use Rattle.tspdef.specs.Laws.{AcceptedIsOptimal, SameCycleIsSameTour, CanonicalFormIsOne}
 use Rattle.certdef.specs.Proofs.{text}
@@ -61,7 +61,7 @@ alike_split P path (clique_split s p q) (clique_split r c d) a n =
 -- what is written of a search without an open node is a proof of the tour that is printed
 pub written_optimal : WrittenIsFaithful → FaithfulIsAccepted → ClosedIsAccepted → AcceptedIsOptimal → SameCycleIsSameTour → CanonicalFormIsOne
     → (i : Instance) (budget : ℕ) (best tour : List ℕ) (l : ℕ) (t : Tree) (proof printed line : List ℕ) → IsInstance i → IsTourOf i best → l ≡ length_in i best
-    → IsSoundFor i l t → IsFitting i.n [] t → open_leaves t + settled t ≤ 1048576 → open_leaves t ≡ 0 → settled t ≤ budget
+    → IsSoundFor i l t → IsFitting i.n (root i) t → open_leaves t + settled t ≤ 1048576 → open_leaves t ≡ 0 → settled t ≤ budget
     → IsBody i best t proof → IsCanonicalForm best tour → printed ≡ optimal_text l tour → line ≡ length_text l → IsProofOf i budget proof printed line
 written_optimal faithful_law accepted_law closed_law optimal_law same_law one_law i budget best tour l t proof printed line is is_best long sound fits few none spent (form, is_form, bytes) is_tour prints lined =
     let many = is.many in
@@ -95,7 +95,7 @@ written_optimal faithful_law accepted_law closed_law optimal_law same_law one_la
 pub written_stopped : WrittenIsFaithful → SameCycleIsSameTour
     → (i : Instance) (budget : ℕ) (best opening : List ℕ) (l : ℕ) (t : Tree) (body printed : List ℕ) → IsInstance i → IsTourOf i best → l ≡ length_in i best
     → IsOpeningTour i opening → l ≤ length_in i opening
-    → IsSoundFor i l t → IsFitting i.n [] t → open_leaves t + settled t ≤ 1048576 → 0 < open_leaves t → settled t ≡ budget
+    → IsSoundFor i l t → IsFitting i.n (root i) t → open_leaves t + settled t ≤ 1048576 → 0 < open_leaves t → settled t ≡ budget
     → SplitsAreNeeded i (opening_length i) t → IsBody i best t body → printed ≡ stopped_text l (open_leaves t) → IsBodyOf i budget body printed
 written_stopped faithful_law same_law i budget best opening l t body printed is is_best long opened shorter sound fits few some spent needed (form, is_form, bytes) prints =
     let same = same_law i best form is_best is_form.same in
@@ -111,7 +111,7 @@ written_stopped faithful_law same_law i budget best opening l t body printed is 
         no_longer = shorter;
         some_open = subst (λ (k : ℕ). 0 < k) (sym faithful.opened) some;
         settled = faithful.settled ∙ spent;
-        needed = alike_split (λ at b. IsNeededSplit i at (opening_length i) b) [] t (tree_in i.n (written i.n form l t)) faithful.alike needed;
+        needed = alike_split (λ at b. IsNeededSplit i at (opening_length i) b) (root i) t (tree_in i.n (written i.n form l t)) faithful.alike needed;
       };
       is_text = bytes ∙ ap (λ (m : ℕ). text (written i.n form m t)) (sym as_long);
       prints = prints ∙ ap (stopped_text l) (sym faithful.opened);

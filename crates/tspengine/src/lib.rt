@@ -21,4 +21,6 @@ pub use running::run;
 pub use statuses::Status;
 
 #[cfg(test)]
+mod fixed_edges;
+#[cfg(test)]
 mod tests;

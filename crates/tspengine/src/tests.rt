@@ -42,14 +42,14 @@ const NONE: Faults<'static> = Faults {
 
 /// A run that has ended.
 #[derive(Drop)]
-struct Ended {
-    status: Status,
-    desk: MemDesk,
-    slots: MemSlots,
+pub(crate) struct Ended {
+    pub(crate) status: Status,
+    pub(crate) desk: MemDesk,
+    pub(crate) slots: MemSlots,
 }
 
 impl Ended {
-    fn text(&self) -> &[u8] {
+    pub(crate) fn text(&self) -> &[u8] {
         self.desk.text()
     }
 
@@ -96,12 +96,12 @@ fn run_with(alloc: Global, line: &str, text: &str, faults: &Faults<'_>) -> Resul
     })
 }
 
-fn solved(alloc: Global, line: &str, text: &str) -> Result<Ended, AllocError> {
+pub(crate) fn solved(alloc: Global, line: &str, text: &str) -> Result<Ended, AllocError> {
     run_with(alloc, line, text, &NONE)
 }
 
 /// Verifies the bytes of a proof, beside slots that hold something.
-fn verified(alloc: Global, text: &str, proof: &[u8]) -> Result<Ended, AllocError> {
+pub(crate) fn verified(alloc: Global, text: &str, proof: &[u8]) -> Result<Ended, AllocError> {
     let mut desk = MemDesk::new(
         alloc,
         text.as_bytes(),
@@ -706,8 +706,12 @@ fn next(state: &mut u64, most: u64) -> u64
     (*state >> 8) % most
 }
 
-/// A matrix of random distances of five cities: its text and the same as plain numbers.
-fn random_matrix(alloc: Global, state: &mut u64) -> Result<(String, Instance), AllocError> {
+/// A matrix of random distances of five cities, with one fixed pair or none: its text and the same as plain numbers.
+fn random_matrix(
+    alloc: Global,
+    state: &mut u64,
+    fixes: bool,
+) -> Result<(String, Instance), AllocError> {
     let mut text = format!(in alloc;
         "TYPE : TSP\nDIMENSION : 5\nEDGE_WEIGHT_TYPE : EXPLICIT\nEDGE_WEIGHT_FORMAT : UPPER_ROW\nEDGE_WEIGHT_SECTION\n"
     )?;
@@ -721,15 +725,22 @@ fn random_matrix(alloc: Global, state: &mut u64) -> Result<(String, Instance), A
             }
         }
     }
-    Ok((text, Instance { n: 5, table }))
+    let mut fixed = Vec::new(alloc);
+    if fixes {
+        let city = next(state, 4) as u32;
+        fixed.push((city, 4))?;
+        let node = city + 1;
+        text.push_str(&format!(in alloc; "FIXED_EDGES_SECTION\n5 {node}\n-1\n")?)?;
+    }
+    Ok((text, Instance { n: 5, table, fixed }))
 }
 
 #[test]
 fn random_instances_have_the_length_of_the_least_tour(rt: HostRuntime) -> Result<(), Fail> {
     let alloc = rt.alloc();
     let mut state = 2026;
-    for _ in 0..40 {
-        let (text, plain) = random_matrix(alloc, &mut state)?;
+    for round in 0..40 {
+        let (text, plain) = random_matrix(alloc, &mut state, round % 2 == 1)?;
         let best = least_tour(alloc, &plain)?.ok_or("no tour")?;
         let length = tour_length(&plain, &best);
         let ended = solved(alloc, "tspc solve a b c", &text)?;

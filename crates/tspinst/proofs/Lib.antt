@@ -1,5 +1,15 @@
 pub mod HeaderLemmas
 pub mod TableLemmas
+pub mod SameLemmas
+pub mod PairLemmas
+pub mod SumLemmas
+pub mod ForestLemmas
+pub mod PartLemmas
+pub mod PartnerLemmas
+pub mod PlaceLemmas
+pub mod KeepLemmas
+pub mod ExactLemmas
+pub mod StartLemmas
 pub mod FillLemmas
 pub mod WeightLemmas
 pub mod PointLemmas

@@ -231,18 +231,24 @@ format_read : (n : ℕ) (rest : List ℕ) → line (explicit n) 5 (codes "EDGE_W
 unfolding explicit formatted keyword_line said
 format_read n rest = header_read (explicit n) 5 (codes "EDGE_WEIGHT_FORMAT") (codes "FULL_MATRIX") rest keywords.EdgeWeightFormat refl refl ∙ refl
 
-section_read : (t : Instance) (rest : List ℕ) (ts : List Token) → weights_read Full t.n (tokens_from 7 rest) ≡ Ok (t.table, ts) → line (formatted t.n) 6 (codes "EDGE_WEIGHT_SECTION") (tokens_from 7 rest) ≡ Ok (weighed t, ts)
+section_read : (t : Instance) (rest : List ℕ) (ts : List Token) → t.fixed ≡ [] → weights_read Full t.n (tokens_from 7 rest) ≡ Ok (t.table, ts) → line (formatted t.n) 6 (codes "EDGE_WEIGHT_SECTION") (tokens_from 7 rest) ≡ Ok (weighed t, ts)
 unfolding formatted weighed keyword_line said edge_weights
-section_read t rest ts e = rw (next_line 6 rest) (rw e refl)
+section_read t rest ts none e = rw (next_line 6 rest) (rw (e, none) refl)
 
-eof_read : (k m : ℕ) (t : Instance) (ts : List Token) → lines (1 + m) (weighed t) ((k, codes "EOF") ∷ ts) ≡ Ok t
+bare : (t : Instance) → t.fixed ≡ [] → ◌≡◌ {A = Result Instance Rattle.tspinst.specs.declared.refusals.Refusal.Refusal} (Ok (record { n = t.n; table = t.table; fixed = [] })) (Ok t)
+bare t none = ap (λ (f : List (ℕ × ℕ)). let j : Instance = record { n = t.n; table = t.table; fixed = f } in the j) (sym none)
+  where
+    the : Instance → Result Instance Rattle.tspinst.specs.declared.refusals.Refusal.Refusal
+    the j = Ok j
+
+eof_read : (k m : ℕ) (t : Instance) (ts : List Token) → lines (1 + m) (weighed t) ((k, codes "EOF") ∷ ts) ≡ Ok (record { n = t.n; table = t.table; fixed = [] })
 unfolding weighed keyword_line said
 eof_read k m t ts =
     lines_step (1 + m) m (weighed t) ((k, codes "EOF") ∷ ts) ts (k, codes "EOF") (record (weighed t) { seen = set (weighed t).seen 12 true }, []) (omega arith) refl refl
     ∙ lines_none m (record (weighed t) { seen = set (weighed t).seen 12 true }) [] refl ∙ refl
 
-matrix_lines : (m : ℕ) (name : List ℕ) (t : Instance) → IsLine name → IsInstance t → lines (7 + m) nothing_said (tokens (plain_matrix name t)) ≡ Ok t
-matrix_lines m name t h whole =
+matrix_lines : (m : ℕ) (name : List ℕ) (t : Instance) → IsLine name → IsInstance t → t.fixed ≡ [] → lines (7 + m) nothing_said (tokens (plain_matrix name t)) ≡ Ok t
+matrix_lines m name t h whole none =
     let eof : List ℕ = word_line (codes "EOF") [] in
     let rows : List ℕ = row_lines t 0 t.n eof in
     let section : List ℕ = word_line (codes "EDGE_WEIGHT_SECTION") rows in
@@ -254,11 +260,11 @@ matrix_lines m name t h whole =
     (header_line 5 (codes "EDGE_WEIGHT_FORMAT") (codes "FULL_MATRIX") section (omega arith) (search rules) (omega arith) (search rules)) (format_read t.n section)
     ∙ lines_step (2 + m) (1 + m) (formatted t.n) _ _ (6, codes "EDGE_WEIGHT_SECTION") (weighed t, tokens_from (7 + t.n) eof) (omega arith)
     (ended 6 (codes "EDGE_WEIGHT_SECTION") rows (omega arith) (search rules))
-    (section_read t rows (tokens_from (7 + t.n) eof) (weights_plain t whole 7 eof))
+    (section_read t rows (tokens_from (7 + t.n) eof) none (weights_plain t whole 7 eof))
     ∙ ap (lines (1 + m) (weighed t)) (ended (7 + t.n) (codes "EOF") [] (omega arith) (search rules))
-    ∙ eof_read (7 + t.n) m t (tokens_from (7 + t.n + 1) [])
+    ∙ eof_read (7 + t.n) m t (tokens_from (7 + t.n + 1) []) ∙ bare t none
 
 pub plain_matrices_read : PlainMatricesAreRead
-plain_matrices_read name t h whole short =
+plain_matrices_read name t h whole none short =
     outcome_short (plain_matrix name t) (7 + length (tokens (plain_matrix name t))) short (omega arith)
-    ∙ matrix_lines (length (tokens (plain_matrix name t))) name t h whole
+    ∙ matrix_lines (length (tokens (plain_matrix name t))) name t h whole none

@@ -114,11 +114,11 @@ weight_type_read : (n : ℕ) (kind : Kind) (rest : List ℕ) → line (sized n) 
 unfolding weighed keyword_line said
 weight_type_read n kind rest = header_read (sized n) 4 (codes "EDGE_WEIGHT_TYPE") (kind_word kind) rest keywords.EdgeWeightType refl refl ∙ rw (kind_read kind) refl
 
-section_read : (n : ℕ) (kind : Kind) (ps : List Point) (rest : List ℕ) (ts : List Token) → points_from n n (replicate n None) (tokens_from 6 rest) ≡ Ok (known ps, ts) → line (weighed n kind) 5 (codes "NODE_COORD_SECTION") (tokens_from 6 rest) ≡ Ok (pointed n kind (record { n = n; table = distances (rule_of kind) ps }), ts)
+section_read : (n : ℕ) (kind : Kind) (ps : List Point) (rest : List ℕ) (ts : List Token) → points_from n n (replicate n None) (tokens_from 6 rest) ≡ Ok (known ps, ts) → line (weighed n kind) 5 (codes "NODE_COORD_SECTION") (tokens_from 6 rest) ≡ Ok (pointed n kind (record { n = n; table = distances (rule_of kind) ps; fixed = [] }), ts)
 unfolding weighed pointed keyword_line said node_coords points_read
 section_read n kind ps rest ts e = rw (next_line 5 rest) (rw (e, all_known ps) refl)
 
-eof_read : (n k : ℕ) (kind : Kind) (i : Instance) (m : ℕ) (ts : List Token) → lines (1 + m) (pointed n kind i) ((k, codes "EOF") ∷ ts) ≡ Ok i
+eof_read : (n k : ℕ) (kind : Kind) (i : Instance) (m : ℕ) (ts : List Token) → lines (1 + m) (pointed n kind i) ((k, codes "EOF") ∷ ts) ≡ Ok (record { n = i.n; table = i.table; fixed = [] })
 unfolding pointed keyword_line said
 eof_read n k kind i m ts =
     lines_step (1 + m) m (pointed n kind i) ((k, codes "EOF") ∷ ts) ts (k, codes "EOF") (record (pointed n kind i) { seen = set (pointed n kind i).seen 12 true }, []) (omega arith) refl refl

@@ -1,5 +1,6 @@
 -- Readings leave no more words than they found, so a text has no more lines than words.
-use Rattle.std.proofs.Common.{◌≡◌, ℕ, zero, suc, ◌*◌, ◌^◌, ◌<◌, ◌≤◌, Bool, true, false, cond, eqb, ltb, List, [], ◌∷◌, length, replicate, Option, Some, None, Result, Ok, Err, refl, arith}
+use Rattle.std.proofs.Common.{◌≡◌, ℕ, zero, suc, ◌*◌, ◌^◌, ◌<◌, ◌≤◌, Bool, true, false, cond, eqb, ltb, List, [], ◌∷◌, length, replicate, Option, Some, None, Result, Ok, Err, refl, sym, ◌∙◌, subst, arith}
+use Rattle.tsplex.specs.Number.{whole_of}
 use Rattle.tsplex.specs.Text.{behind_line, tokens}
 use Rattle.tsplex.proofs.CountLemmas.{count_tokens}
 use Rattle.std.proofs.lemmas.Bool.Decides.{nat_tests}
@@ -17,8 +18,12 @@ use Rattle.tspinst.specs.declared.keywords.Format.{Format}
 use Rattle.tspinst.specs.declared.keywords.Format.TheVariants.{Function, Full, Upper, Lower, UpperDiagonal, LowerDiagonal}
 use Rattle.tspinst.specs.Headers.{Token, dimension_of, value_of, name_of}
 use Rattle.tspinst.specs.Tables.{Point, distances}
-use Rattle.tspinst.specs.Sections.{◌>>=◌, next, passed, with_entry, entry_read, entries_read, entries, weights_read, coordinate_read, node_read, point_read, points_from, points_read, all_points}
-use Rattle.tspinst.specs.Texts.{Said, with_dimension, with_weight_type, with_format, with_table, display_data, node_coords, listed_weights, edge_weights, said, keyword_line, line, lines, now_seen, is_repeated, nothing_said, outcome}
+use Rattle.tspinst.specs.declared.refusals.ReadError.{ReadError}
+use Rattle.tspinst.specs.declared.refusals.ReadError.TheVariants.{NoMemory, Failed, Refused}
+use Rattle.tspinst.specs.Views.{Answers}
+use Rattle.tspinst.specs.Sections.{◌>>=◌, next, passed, with_entry, entry_read, entries_read, entries, weights_read, coordinate_read, node_read, point_read, points_from, points_read, all_points, ends_edges, city_if, edge_if, second_read, edge_read, edges_from, edges_read}
+use Rattle.tspinst.specs.Fixings.{fixed_with}
+use Rattle.tspinst.specs.Texts.{Said, with_dimension, with_weight_type, with_format, with_table, display_data, node_coords, listed_weights, edge_weights, fixed_edges, said, keyword_line, line, lines, now_seen, is_repeated, nothing_said, outcome}
 use Rattle.tspinst.specs.Keywords.{keyword_of, weight_type_of, format_of}
 
 -- what is left behind is no longer than what was there
@@ -97,6 +102,97 @@ behind_shrinks k (t ∷ ts) = at (eqb t.0 k) (behind_shrinks k ts)
     at true h = omega arith
     at false h = omega arith
 
+second_shrinks : (n : ℕ) (pairs : List (ℕ × ℕ)) (u : ℕ) (ts : List Token) → Shrinks (second_read n pairs u ts) ts
+unfolding second_read
+second_shrinks n pairs u [] = tt
+second_shrinks n pairs u (t ∷ ts) = then_plain (city_if t.0 n (whole_of t.1 n)) (λ v. edge_if t.0 (fixed_with n pairs u v) >>= λ more. Ok (more, ts)) (t ∷ ts) (λ v. then_plain (edge_if t.0 (fixed_with n pairs u v)) (λ more. Ok (more, ts)) (t ∷ ts) (λ more. omega arith))
+
+-- after a pair there are fewer words
+abbrev pub Lessens : Result ((Bool × List (ℕ × ℕ)) × List Token) Refusal → List Token → Type 0
+Lessens (Ok x) ts = length x.1 < length ts
+Lessens (Err e) ts = Unit {0}
+
+lessens_then : {A : Type 0} (r : Result A Refusal) (f : A → Result ((Bool × List (ℕ × ℕ)) × List Token) Refusal) (ts : List Token) → ((x : A) → Lessens (f x) ts) → Lessens (r >>= f) ts
+lessens_then (Ok x) f ts g = g x
+lessens_then (Err e) f ts g = tt
+
+lessens_second : (r : Result (List (ℕ × ℕ) × List Token) Refusal) (t : Token) (ts : List Token) → Shrinks r ts → Lessens (r >>= λ x. Ok ((true, x.0), x.1)) (t ∷ ts)
+lessens_second (Ok x) t ts h = omega arith
+lessens_second (Err e) t ts h = tt
+
+lessens_choice : (b : Bool) (x y : Result ((Bool × List (ℕ × ℕ)) × List Token) Refusal) (ts : List Token) → Lessens x ts → Lessens y ts → Lessens (cond b x y) ts
+lessens_choice true x y ts h g = h
+lessens_choice false x y ts h g = g
+
+pub edge_lessens : (n : ℕ) (pairs : List (ℕ × ℕ)) (ts : List Token) → Lessens (edge_read n pairs ts) ts
+unfolding edge_read
+edge_lessens n pairs [] = tt
+edge_lessens n pairs (t ∷ ts) = lessens_choice (ends_edges (whole_of t.1 n)) _ _ (t ∷ ts) (omega arith) (lessens_then (city_if t.0 n (whole_of t.1 n)) _ (t ∷ ts) (λ u. lessens_second (second_read n pairs u ts) t ts (second_shrinks n pairs u ts)))
+
+more_shrinks : (n m : ℕ) (x : Bool × List (ℕ × ℕ)) (us ts : List Token) → length us ≤ length ts → Shrinks (edges_from n m x.1 us) us → Shrinks (cond x.0 (edges_from n m x.1 us) (Ok (x.1, us))) ts
+more_shrinks n m (true, pairs) us ts l h = wider (edges_from n m pairs us) us ts l h
+more_shrinks n m (false, pairs) us ts l h = l
+
+edge_shrinks : (r : Result ((Bool × List (ℕ × ℕ)) × List Token) Refusal) (f : (Bool × List (ℕ × ℕ)) × List Token → Result (List (ℕ × ℕ) × List Token) Refusal) (ts : List Token) → Lessens r ts → ((x : (Bool × List (ℕ × ℕ)) × List Token) → length x.1 ≤ length ts → Shrinks (f x) ts) → Shrinks (r >>= f) ts
+edge_shrinks (Ok x) f ts h g = g x (omega arith)
+edge_shrinks (Err e) f ts h g = tt
+
+edges_from_shrinks : (n m : ℕ) (pairs : List (ℕ × ℕ)) (ts : List Token) → Shrinks (edges_from n m pairs ts) ts
+unfolding edges_from
+edges_from_shrinks n zero pairs ts = tt
+edges_from_shrinks n (suc m) pairs ts = edge_shrinks (edge_read n pairs ts) _ ts (edge_lessens n pairs ts) (λ x l. more_shrinks n m x.0 x.1 ts l (edges_from_shrinks n m x.0.1 x.1))
+
+fixed_shrinks : (s : Said) (k : ℕ) (ts : List Token) (n : Option ℕ) → Shrinks (fixed_edges s k ts n) ts
+unfolding fixed_edges edges_read
+fixed_shrinks s k ts None = tt
+fixed_shrinks s k ts (Some n) = then (edges_from n (length ts) [] ts) _ ts (edges_from_shrinks n (length ts) [] ts) (λ x l. l)
+
+-- as many pairs as there are words are all pairs
+same_more : (n a b : ℕ) (x : Bool × List (ℕ × ℕ)) (us : List Token) → edges_from n a x.1 us ≡ edges_from n b x.1 us → cond x.0 (edges_from n a x.1 us) (Ok (x.1, us)) ≡ cond x.0 (edges_from n b x.1 us) (Ok (x.1, us))
+same_more n a b (true, pairs) us e = e
+same_more n a b (false, pairs) us e = refl
+
+same_edges : (r : Result ((Bool × List (ℕ × ℕ)) × List Token) Refusal) (f g : (Bool × List (ℕ × ℕ)) × List Token → Result (List (ℕ × ℕ) × List Token) Refusal) (ts : List Token) → Lessens r ts → ((x : (Bool × List (ℕ × ℕ)) × List Token) → length x.1 < length ts → f x ≡ g x) → (r >>= f) ≡ (r >>= g)
+same_edges (Ok x) f g ts h same = same x h
+same_edges (Err e) f g ts h same = refl
+
+pub all_edges : (n a b : ℕ) (pairs : List (ℕ × ℕ)) (ts : List Token) → length ts ≤ a → length ts ≤ b → edges_from n a pairs ts ≡ edges_from n b pairs ts
+unfolding edges_from edge_read
+all_edges n zero zero pairs ts l h = refl
+all_edges n zero (suc b) pairs [] l h = refl
+all_edges n zero (suc b) pairs (t ∷ ts) l h = absurd (omega arith)
+all_edges n (suc a) zero pairs [] l h = refl
+all_edges n (suc a) zero pairs (t ∷ ts) l h = absurd (omega arith)
+all_edges n (suc a) (suc b) pairs ts l h = same_edges (edge_read n pairs ts) _ _ ts (edge_lessens n pairs ts) (λ x k. same_more n a b x.0 x.1 (all_edges n a b x.0.1 x.1 (omega arith) (omega arith)))
+
+pub edges_begin : (n : ℕ) (ts : List Token) → edges_from n (length ts) [] ts ≡ edges_read n ts
+unfolding edges_read
+edges_begin n ts = refl
+
+pub edge_fewer : (n : ℕ) (pairs : List (ℕ × ℕ)) (ts : List Token) (x : (Bool × List (ℕ × ℕ)) × List Token) → edge_read n pairs ts ≡ Ok x → length x.1 < length ts
+edge_fewer n pairs ts x e = subst (λ (r : Result ((Bool × List (ℕ × ℕ)) × List Token) Refusal). Lessens r ts) e (edge_lessens n pairs ts)
+
+-- one pair, and then the others
+pub edges_step : (n : ℕ) (pairs more : List (ℕ × ℕ)) (b : Bool) (ts us : List Token) → edge_read n pairs ts ≡ Ok ((b, more), us)
+    → cond b (edges_from n (length us) more us) (Ok (more, us)) ≡ edges_from n (length ts) pairs ts
+unfolding edges_from
+edges_step n pairs more b [] us e = absurd (let l = edge_fewer n pairs [] ((b, more), us) e in omega arith)
+edges_step n pairs more b (t ∷ ts) us e =
+    let l : length us < length (t ∷ ts) = edge_fewer n pairs (t ∷ ts) ((b, more), us) e in
+    rw e (same_more n (length us) (length ts) (b, more) us (all_edges n (length us) (length ts) more us (omega arith) (omega arith)))
+
+edges_stop : (n : ℕ) (pairs : List (ℕ × ℕ)) (ts : List Token) (r : Refusal) → edge_read n pairs ts ≡ Err r → edges_from n (length ts) pairs ts ≡ Err r
+unfolding edges_from edge_read
+edges_stop n pairs [] r e = cc
+edges_stop n pairs (t ∷ ts) r e = rw e refl
+
+-- where a pair is refused, the section is
+pub edges_failed : {B D : Type 0} (view : B → Bool × List (ℕ × ℕ)) (shown : D → List (ℕ × ℕ)) (error : ReadError) (us : List Token) (n : ℕ) (pairs : List (ℕ × ℕ)) (ts : List Token) (whole : Result (List (ℕ × ℕ) × List Token) Refusal)
+    → Answers view (Err error) us (edge_read n pairs ts) → edges_from n (length ts) pairs ts ≡ whole → Answers shown (Err error) us whole
+edges_failed view shown NoMemory us n pairs ts whole h same = tt
+edges_failed view shown Failed us n pairs ts whole h same = h
+edges_failed view shown (Refused r) us n pairs ts whole h same = sym same ∙ edges_stop n pairs ts r h
+
 display_shrinks : (s : Said) (k : ℕ) (ts : List Token) (n : Option ℕ) → Shrinks (display_data s k ts n) ts
 unfolding display_data
 display_shrinks s k ts None = tt
@@ -166,7 +262,7 @@ said_shrinks s k value ts keywords.EdgeWeightFormat = format_shrinks s k ts (for
 said_shrinks s k value ts keywords.NodeCoordSection = coords_shrinks s k ts s.dimension s.weight_type
 said_shrinks s k value ts keywords.EdgeWeightSection = edges_shrinks s k ts s.dimension s.weight_type s.format
 said_shrinks s k value ts keywords.DisplayDataSection = display_shrinks s k ts s.dimension
-said_shrinks s k value ts keywords.FixedEdgesSection = tt
+said_shrinks s k value ts keywords.FixedEdgesSection = fixed_shrinks s k ts s.dimension
 said_shrinks s k value ts keywords.Eof = omega arith
 
 keyword_shrinks : (s : Said) (k : ℕ) (value : List ℕ) (ts : List Token) (w : Option Keyword) → Shrinks (keyword_line s k value ts w) ts

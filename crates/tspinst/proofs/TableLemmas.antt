@@ -64,6 +64,7 @@ put_table n t i j w h li lj apart lw =
           let y : eqb (a * n + a) (j * n + i) ≡ false = ne_eqb _ _ (λ e. let p = same_from_place a a j i n la li e in apart (sym p.1 ∙ p.0)) in
           two_writes t (i * n + j) (j * n + i) w (a * n + a) lx ly ∙ rw (x, y) (h.at_home a la);
       small = λ k. rw (two_writes t (i * n + j) (j * n + i) w k lx ly) (small_choice _ _ w _ lw (h.small k));
+      fixed = h.fixed;
     }
 
 -- ---- no distance yet
@@ -81,6 +82,7 @@ zeros_table n t l h e = rw e (record {
   symmetric = λ i j li lj. zero_at (n * n) (i * n + j) ∙ sym (zero_at (n * n) (j * n + i));
   at_home = λ i l. zero_at (n * n) (i * n + i);
   small = λ k. rw (zero_at (n * n) k) (omega arith);
+  fixed = record { below = tt; rising = tt; few = λ c. omega arith; open_ended = λ s u v lu su lv sv none. (u, record { city = lu; inside = su; few = omega arith }) };
 })
 
 -- ---- reading a distance

@@ -2,6 +2,7 @@ pub mod Refusals
 pub mod Keywords
 pub mod Headers
 pub mod Tables
+pub mod Fixings
 pub mod Sections
 pub mod Texts
 pub mod Views

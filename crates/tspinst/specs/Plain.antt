@@ -66,7 +66,7 @@ abbrev pub PlainPointsAreRead : Type 0
 PlainPointsAreRead = (name : List ℕ) (kind : Kind) (ps : List Point) → IsLine name → 3 ≤ length ps → length ps ≤ 2000 → AllByRecursion IsNear ps
     → length (plain_points name kind ps) ≤ 2 ^ 26 → InstanceText (plain_points name kind ps) (instance_of (rule_of kind) ps)
 
--- The plain text of an instance's table is read as exactly that instance.
+-- The plain text of an instance's table is read as exactly that instance, where it fixes no pair.
 abbrev pub PlainMatricesAreRead : Type 0
-PlainMatricesAreRead = (name : List ℕ) (t : Instance) → IsLine name → IsInstance t
+PlainMatricesAreRead = (name : List ℕ) (t : Instance) → IsLine name → IsInstance t → t.fixed ≡ []
     → length (plain_matrix name t) ≤ 2 ^ 26 → InstanceText (plain_matrix name t) t

@@ -1,16 +1,18 @@
--- Sections: a fixed number of words, wherever lines end.
-use Rattle.std.specs.Prelude.{◌≡◌, ℕ, zero, suc, ◌+◌, ◌-◌, ◌*◌, ◌^◌, ◌&&◌, ◌==◌, Bool, true, false, nat_lt, if◌then◌else◌, List, [], ◌∷◌, map, flat_map, replicate, ℤ, pos, negsuc, Option, Some, None, is_none, unwrap_or, Result, Ok, Err, slice_index_or, slice_set}
+-- Sections: a fixed number of words, or words up to -1, wherever lines end.
+use Rattle.std.specs.Prelude.{◌≡◌, ℕ, zero, suc, ◌+◌, ◌-◌, ◌*◌, ◌^◌, ◌&&◌, ◌==◌, Bool, true, false, nat_lt, nat_le, if◌then◌else◌, List, [], ◌∷◌, length, map, flat_map, replicate, ℤ, pos, negsuc, Option, Some, None, is_none, unwrap_or, Result, Ok, Err, slice_index_or, slice_set}
 use Rattle.std.specs.List.{range_with_len}
 use Rattle.tspdef.specs.Distances.{Rule}
 use Rattle.tsplex.specs.Number.{whole_of}
 use Rattle.tsplex.specs.declared.number.NumberFault.{NumberFault}
 use Rattle.tsplex.specs.declared.number.NumberFault.TheVariants.{NotANumber, Fractional, OutOfRange}
+use Rattle.tspinst.specs.declared.refusals.PairFault.{PairFault}
 use Rattle.tspinst.specs.declared.refusals.Refusal.{Refusal}
 use Rattle.tspinst.specs.declared.refusals.Refusal.TheVariants as refusals
 use Rattle.tspinst.specs.declared.keywords.Format.{Format}
 use Rattle.tspinst.specs.declared.keywords.Format.TheVariants.{Function, Full, Upper, Lower, UpperDiagonal, LowerDiagonal}
 use Rattle.tspinst.specs.Headers.{Token}
 use Rattle.tspinst.specs.Tables.{Point, put, distances}
+use Rattle.tspinst.specs.Fixings.{fixed_with}
 
 -- Each reading below answers what it read and the words behind that, or the first refusal.
 
@@ -124,6 +126,44 @@ all_points points = map (λ p. unwrap_or p (pos 0, pos 0)) points
 -- a section of coordinates gives the table of their distances
 unfoldable pub points_read : Rule → ℕ → List Token → Result (List ℕ × List Token) Refusal
 points_read rule n ts = (points_from n n (replicate n None) ts >>= λ x. Ok (distances rule (all_points x.0), x.1))
+
+-- ---- fixed edges
+
+-- a section of fixed edges ends with -1 in the place of a first city
+abbrev pub ends_edges : Result ℤ NumberFault → Bool
+ends_edges (Ok (pos v)) = false
+ends_edges (Ok (negsuc v)) = v == 0
+ends_edges (Err fault) = false
+
+-- a city of 1 to n, by its place, which counts from 0
+abbrev pub city_if : ℕ → ℕ → Result ℤ NumberFault → Result ℕ Refusal
+city_if line n (Ok (pos v)) = (if nat_lt 0 v && nat_le v n then Ok (v - 1) else Err (refusals.BadNode line))
+city_if line n (Ok (negsuc v)) = Err (refusals.BadNode line)
+city_if line n (Err OutOfRange) = Err (refusals.BadNode line)
+city_if line n (Err NotANumber) = Err (refusals.BadNumber line NotANumber)
+city_if line n (Err Fractional) = Err (refusals.BadNumber line Fractional)
+
+-- the pairs with one more, which may be refused
+abbrev pub edge_if : ℕ → Result (List (ℕ × ℕ)) PairFault → Result (List (ℕ × ℕ)) Refusal
+edge_if line (Ok pairs) = Ok pairs
+edge_if line (Err fault) = Err (refusals.FixedEdges line fault)
+
+-- the second city of a pair, and the pairs with that one
+unfoldable pub second_read : ℕ → List (ℕ × ℕ) → ℕ → List Token → Result (List (ℕ × ℕ) × List Token) Refusal
+second_read n pairs u ts = (next ts >>= λ t. (city_if t.0.0 n (whole_of t.0.1 n) >>= λ v. (edge_if t.0.0 (fixed_with n pairs u v) >>= λ more. Ok (more, t.1))))
+
+-- a pair, or the end of the section; and whether it was a pair
+unfoldable pub edge_read : ℕ → List (ℕ × ℕ) → List Token → Result ((Bool × List (ℕ × ℕ)) × List Token) Refusal
+edge_read n pairs ts = (next ts >>= λ t. (if ends_edges (whole_of t.0.1 n) then Ok ((false, pairs), t.1) else (city_if t.0.0 n (whole_of t.0.1 n) >>= λ u. (second_read n pairs u t.1 >>= λ x. Ok ((true, x.0), x.1)))))
+
+-- m pairs more at most, up to the end of the section
+unfoldable pub edges_from : ℕ → ℕ → List (ℕ × ℕ) → List Token → Result (List (ℕ × ℕ) × List Token) Refusal
+edges_from n zero pairs ts = Err refusals.Truncated
+edges_from n (suc m) pairs ts = (edge_read n pairs ts >>= λ x. (if x.0.0 then edges_from n m x.0.1 x.1 else Ok (x.0.1, x.1)))
+
+-- a section of fixed edges gives the pairs, rising; it has no more pairs than words
+unfoldable pub edges_read : ℕ → List Token → Result (List (ℕ × ℕ) × List Token) Refusal
+edges_read n ts = edges_from n (length ts) [] ts
 
 -- ---- what functions did
 

@@ -17,17 +17,18 @@ use Rattle.tspinst.specs.declared.keywords.Format.TheVariants.{Function}
 use Rattle.tspinst.specs.Refusals.{number_of, line_of, extras_of}
 use Rattle.tspinst.specs.Keywords.{keyword_of, weight_type_of, format_of}
 use Rattle.tspinst.specs.Headers.{Token, name_of, value_of, dimension_of}
-use Rattle.tspinst.specs.Sections.{passed, weights_read, points_read, ◌>>=◌}
+use Rattle.tspinst.specs.Sections.{passed, weights_read, points_read, edges_read, ◌>>=◌}
 
 -- ---- what was said so far
 
--- which keywords were seen, a flag each, and what they said
+-- which keywords were seen, a flag each, and what they said; and the fixed pairs, none where there is no section of them
 pub record Said : Type 0 where
   pub seen : List Bool
   pub dimension : Option ℕ
   pub weight_type : Option WeightType
   pub format : Option Format
   pub instance : Option Instance
+  pub fixed : List (ℕ × ℕ)
 
 -- a keyword's place among the flags
 abbrev pub place_of : Keyword → ℕ
@@ -52,7 +53,7 @@ abbrev pub now_seen : List Bool → Keyword → List Bool
 now_seen seen keyword = slice_set seen (place_of keyword) true
 
 abbrev pub nothing_said : Said
-nothing_said = record { seen = replicate 13 false; dimension = None; weight_type = None; format = None; instance = None }
+nothing_said = record { seen = replicate 13 false; dimension = None; weight_type = None; format = None; instance = None; fixed = [] }
 
 abbrev pub is_comment : Keyword → Bool
 is_comment keyword = place_of keyword == place_of keywords.Comment
@@ -80,7 +81,7 @@ with_format s k ts None = Err (refusals.WrongWeightFormat k)
 with_format s k ts (Some f) = Ok (record s { format = Some f }, ts)
 
 abbrev pub with_table : Said → ℕ → Result (List ℕ × List Token) Refusal → Saying
-with_table s n read = (read >>= λ x. Ok (record s { instance = Some (record { n = n; table = x.0 }) }, x.1))
+with_table s n read = (read >>= λ x. Ok (record s { instance = Some (record { n = n; table = x.0; fixed = [] }) }, x.1))
 
 -- three words for each node, passed over
 unfoldable pub display_data : Said → ℕ → List Token → Option ℕ → Saying
@@ -104,6 +105,11 @@ unfoldable pub edge_weights : Said → ℕ → List Token → Option ℕ → Opt
 edge_weights s k ts (Some n) (Some Explicit) (Some f) = listed_weights s k n ts f
 edge_weights s k ts n t f = Err (refusals.Misplaced k)
 
+-- fixed pairs
+unfoldable pub fixed_edges : Said → ℕ → List Token → Option ℕ → Saying
+fixed_edges s k ts None = Err (refusals.Misplaced k)
+fixed_edges s k ts (Some n) = (edges_read n ts >>= λ x. Ok (record s { fixed = x.0 }, x.1))
+
 -- what line k says by its keyword, where its value has this first word and these words stand behind it
 unfoldable pub said : Said → ℕ → List ℕ → List Token → Keyword → Saying
 said s k value ts keywords.Name = Ok (s, ts)
@@ -117,7 +123,7 @@ said s k value ts keywords.EdgeWeightFormat = with_format s k ts (format_of valu
 said s k value ts keywords.NodeCoordSection = node_coords s k ts s.dimension s.weight_type
 said s k value ts keywords.EdgeWeightSection = edge_weights s k ts s.dimension s.weight_type s.format
 said s k value ts keywords.DisplayDataSection = display_data s k ts s.dimension
-said s k value ts keywords.FixedEdgesSection = Err (refusals.FixedEdges k)
+said s k value ts keywords.FixedEdgesSection = fixed_edges s k ts s.dimension
 said s k value ts keywords.Eof = Ok (s, [])
 
 unfoldable pub keyword_line : Said → ℕ → List ℕ → List Token → Option Keyword → Saying
@@ -131,15 +137,15 @@ line s k first ts = keyword_line s k (value_of k first ts) (behind_line k ts) (k
 -- ---- what the whole text says
 
 -- what is missing at the end, the least first
-abbrev pub at_end : Bool → Option ℕ → Option WeightType → Option Instance → Result Instance Refusal
-at_end false n t i = Err (refusals.Missing parts.Type)
-at_end true None t i = Err (refusals.Missing parts.Dimension)
-at_end true (Some n) None i = Err (refusals.Missing parts.EdgeWeightType)
-at_end true (Some n) (Some t) None = Err (refusals.Missing parts.Distances)
-at_end true (Some n) (Some t) (Some i) = Ok i
+abbrev pub at_end : Bool → Option ℕ → Option WeightType → Option Instance → List (ℕ × ℕ) → Result Instance Refusal
+at_end false n t i fixed = Err (refusals.Missing parts.Type)
+at_end true None t i fixed = Err (refusals.Missing parts.Dimension)
+at_end true (Some n) None i fixed = Err (refusals.Missing parts.EdgeWeightType)
+at_end true (Some n) (Some t) None fixed = Err (refusals.Missing parts.Distances)
+at_end true (Some n) (Some t) (Some i) fixed = Ok (record { n = i.n; table = i.table; fixed = fixed })
 
 abbrev pub end_of : Said → Result Instance Refusal
-end_of s = at_end (has_seen s.seen keywords.Type) s.dimension s.weight_type s.instance
+end_of s = at_end (has_seen s.seen keywords.Type) s.dimension s.weight_type s.instance s.fixed
 
 -- m lines at most
 unfoldable pub lines : ℕ → Said → List Token → Result Instance Refusal

@@ -1,6 +1,7 @@
 //! Laws of texts, each the contract of a function here.
 
 ghost use Rattle.tspinst.specs.Laws.{TextsAreJudged, AllLinesAreRead, HeadersAreLines};
+ghost use Rattle.tspinst.specs.Fixings.{CyclesAreTold};
 ghost use Rattle.tspinst.specs.Plain.{PlainPointsAreRead, PlainMatricesAreRead};
 
 /// Bytes are the text of exactly one instance, or have exactly one first refusal.
@@ -23,4 +24,10 @@ pub fn headers_are_lines()
 pub fn plain_texts_are_read()
     ensures points { PlainPointsAreRead }
     ensures matrices { PlainMatricesAreRead }
+{}
+
+/// Which cities fixed pairs join, and whether they leave one out, is told as it is: two cities are joined exactly where each set
+/// that no pair leaves has both or none.
+pub fn cycles_are_told()
+    ensures { CyclesAreTold }
 {}

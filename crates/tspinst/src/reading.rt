@@ -1,11 +1,13 @@
 //! What the lines of a text say, one after the other.
 
-ghost use Rattle.std.specs.Prelude.{◌≡◌, ◌≢◌, ℕ, ◌+◌, ◌-◌, ◌*◌, ◌^◌, ◌<◌, ◌≤◌, length, IfOk};
+ghost use Rattle.std.specs.Prelude.{◌≡◌, Some, None, true, false, slice_index_or, [], ◌≢◌, ℕ, ◌+◌, ◌-◌, ◌*◌, ◌^◌, ◌<◌, ◌≤◌, length, IfOk};
 ghost use Rattle.std.specs.Option.{ForSome};
 ghost use Rattle.tsplex.specs.Text.{tokens};
 ghost use Rattle.tspinst.specs.Keywords.{keyword_of};
-ghost use Rattle.tspinst.specs.Texts.{place_of, now_seen, is_repeated, said, keyword_line, display_data, node_coords, edge_weights, end_of, lines, nothing_said};
+ghost use Rattle.tspinst.specs.Texts.{place_of, has_seen, now_seen, is_repeated, said, keyword_line, display_data, node_coords, edge_weights, fixed_edges, end_of, lines, nothing_said};
 
+use crate::edges::read_edges;
+use crate::fixing::Fixing;
 use crate::header::dimension;
 use crate::keywords::{
     Format, Keyword, WeightType, find_format, find_keyword, find_weight_type, is,
@@ -33,11 +35,15 @@ pub struct State {
     weight_type: Option<WeightType>,
     format: Option<Format>,
     instance: Option<Instance>,
+    fixing: Option<Fixing>,
     ghost sized: { ForSome dimension (λ n. (3 ≤ n) × (n ≤ 2000)) },
+    ghost of_instance: { ForSome instance (λ i. (dimension ≡ Some i.n) × (i.fixed ≡ [])) },
+    ghost of_fixing: { ForSome fixing (λ f. dimension ≡ Some f.n) },
+    ghost unsaid: { slice_index_or seen 3 false ≡ false → dimension ≡ None },
 }
 
 impl State {
-    ghost use Rattle.tspinst.specs.Views.{Tells, said_of, IsRead};
+    ghost use Rattle.tspinst.specs.Views.{Tells, said_of, pairs_read, IsRead};
 
     /// Before the first line.
     fn new() -> Self
@@ -49,6 +55,7 @@ impl State {
             weight_type: None,
             format: None,
             instance: None,
+            fixing: None,
         }
     }
 
@@ -77,7 +84,7 @@ impl State {
             (Some(n), Some(WeightType::Explicit)) => Ok(pass(words, 3 * n)?),
             (Some(n), Some(WeightType::Points(kind))) => {
                 let table = read_points(alloc, words, kind, n)?;
-                self.instance = Some(Instance::of_table(n, table));
+                self.instance = Some(Instance::of_table(alloc, n, table));
                 Ok(())
             }
             _ => Err(ReadError::Refused(Refusal::Misplaced(line))),
@@ -100,10 +107,29 @@ impl State {
             }
             (Some(n), Some(WeightType::Explicit), Some(format)) => {
                 let table = read_weights(alloc, words, format, n)?;
-                self.instance = Some(Instance::of_table(n, table));
+                self.instance = Some(Instance::of_table(alloc, n, table));
                 Ok(())
             }
             _ => Err(ReadError::Refused(Refusal::Misplaced(line))),
+        }
+    }
+
+    /// Fixed pairs.
+    #[tactic(auto, unfolding(crate::specs::Texts::fixed_edges))]
+    fn hear_fixed_edges(
+        &mut self,
+        alloc: Global,
+        words: &mut Words<'_>,
+        line: u32,
+    ) -> Result<(), ReadError>
+        ensures { Tells result (said_of self.new, words.new) (fixed_edges (said_of self.old) line words.old self.old.dimension) }
+    {
+        match self.dimension {
+            Some(n) => {
+                self.fixing = Some(read_edges(alloc, words, n)?);
+                Ok(())
+            }
+            None => Err(ReadError::Refused(Refusal::Misplaced(line))),
         }
     }
 
@@ -117,6 +143,8 @@ impl State {
         keyword: Keyword,
         value: &[u8],
     ) -> Result<(), ReadError>
+        requires seen { has_seen self.old.seen keyword ≡ true }
+        requires once { keyword ≡ Keyword.Dimension → self.old.dimension ≡ None }
         ensures { Tells result (said_of self.new, words.new) (said (said_of self.old) line value.now words.old keyword) }
     {
         match keyword {
@@ -153,7 +181,7 @@ impl State {
             Keyword::NodeCoordSection => self.hear_node_coords(alloc, words, line),
             Keyword::EdgeWeightSection => self.hear_edge_weights(alloc, words, line),
             Keyword::DisplayDataSection => self.hear_display_data(words, line),
-            Keyword::FixedEdgesSection => Err(ReadError::Refused(Refusal::FixedEdges(line))),
+            Keyword::FixedEdgesSection => self.hear_fixed_edges(alloc, words, line),
             Keyword::Eof => {
                 words.clear();
                 Ok(())
@@ -190,6 +218,18 @@ impl State {
         }
     }
 
+    /// The instance with the pairs that a section fixed, if there was one.
+    fn with_fixing(instance: Instance, fixing: Option<Fixing>) -> Instance
+        requires bare { instance.fixed ≡ [] }
+        requires same { ForSome fixing (λ f. f.n ≡ instance.n) }
+        ensures { result ≡ record { n = instance.n; table = instance.table; fixed = pairs_read fixing } }
+    {
+        match fixing {
+            Some(fixing) => instance.hold(fixing),
+            None => instance,
+        }
+    }
+
     /// The instance, if nothing is missing.
     fn end(self) -> Result<Instance, ReadError>
         ensures { IsRead result (end_of (said_of self)) }
@@ -198,7 +238,7 @@ impl State {
             return Err(ReadError::Refused(Refusal::Missing(Part::Type)));
         }
         match (self.dimension, self.weight_type, self.instance) {
-            (Some(_), Some(_), Some(instance)) => Ok(instance),
+            (Some(_), Some(_), Some(instance)) => Ok(State::with_fixing(instance, self.fixing)),
             (Some(_), Some(_), None) => Err(ReadError::Refused(Refusal::Missing(Part::Distances))),
             (Some(_), None, _) => Err(ReadError::Refused(Refusal::Missing(Part::EdgeWeightType))),
             (None, _, _) => Err(ReadError::Refused(Refusal::Missing(Part::Dimension))),

@@ -18,6 +18,19 @@ pub enum Part {
     Distances = 4,
 }
 
+/// Why a pair may not be fixed beside those before it.
+#[derive(Clone, Copy, Debug, PartialEq, Eq, Drop)]
+pub enum PairFault {
+    /// Its two cities are one.
+    Loop = 1,
+    /// A city would have three fixed pairs.
+    Third = 2,
+    /// It closes a cycle that leaves out a city.
+    Cycle = 3,
+    /// One of its numbers is no city. In a text this is told as a bad node.
+    NoCity = 4,
+}
+
 /// The first refusal of a text. The number that comes first is its line's, from 1.
 #[derive(Clone, Copy, Debug, PartialEq, Eq, Drop)]
 pub enum Refusal {
@@ -44,8 +57,8 @@ pub enum Refusal {
     /// The bytes end inside a section.
     Truncated,
     Missing(Part),
-    /// There is a section of fixed edges.
-    FixedEdges(u32),
+    /// A pair may not be fixed beside those before it. The line is its second number's.
+    FixedEdges(u32, PairFault),
 }
 
 impl Refusal {
@@ -69,7 +82,7 @@ impl Refusal {
             Refusal::Asymmetric(_, _, _) => 11,
             Refusal::Truncated => 12,
             Refusal::Missing(_) => 13,
-            Refusal::FixedEdges(_) => 14,
+            Refusal::FixedEdges(_, _) => 14,
         }
     }
 
@@ -89,11 +102,12 @@ impl Refusal {
             | Refusal::BadNumber(line, _)
             | Refusal::BadNode(line)
             | Refusal::Asymmetric(line, _, _)
-            | Refusal::FixedEdges(line) => line,
+            | Refusal::FixedEdges(line, _) => line,
         }
     }
 
-    /// What more is told: the fault of a number, the two cities of an asymmetric pair, or what is missing.
+    /// What more is told: the fault of a number, the two cities of an asymmetric pair, what is missing, or why a pair may not be
+    /// fixed.
     pub fn extras(self) -> (Option<u32>, Option<u32>)
         ensures { option_to_list result.0 ++ option_to_list result.1 ≡ extras_of self }
     {
@@ -101,6 +115,7 @@ impl Refusal {
             Refusal::BadNumber(_, fault) => (Some(fault as u32), None),
             Refusal::Asymmetric(_, low, high) => (Some(low), Some(high)),
             Refusal::Missing(part) => (Some(part as u32), None),
+            Refusal::FixedEdges(_, fault) => (Some(fault as u32), None),
             _ => (None, None),
         }
     }
@@ -166,3 +181,35 @@ impl fmt::Display for ReadError {
 }
 
 impl Error for ReadError {}
+
+/// Why pairs are not fixed.
+#[derive(Clone, Copy, Debug, PartialEq, Eq, Drop)]
+pub enum FixError {
+    NoMemory,
+    /// The pair at this place, from 0, may not be fixed beside those before it.
+    BadFixed { place: usize, k: PairFault },
+}
+
+impl From<AllocError> for FixError {
+    ghost use Rattle.tspinst.specs.declared.refusals.FixError.TheVariants.{NoMemory};
+
+    ghost from_gives = { λ _ e. e ≡ NoMemory };
+
+    fn from(_error: AllocError) -> Self {
+        FixError::NoMemory
+    }
+}
+
+impl fmt::Display for FixError {
+    fn fmt<W: fmt::Write>(&self, f: &mut fmt::Formatter<W>) -> fmt::Result {
+        match self {
+            FixError::NoMemory => write!(f, "out of memory"),
+            FixError::BadFixed { place, k } => {
+                let k = *k as u32;
+                write!(f, "pair {place} may not be fixed: {k}")
+            }
+        }
+    }
+}
+
+impl Error for FixError {}

@@ -79,5 +79,5 @@ pub fn from_points(alloc: Global, kind: Kind, points: &[Point]) -> Result<Instan
     ensures { IfOk result (λ i. i ≡ instance_of (rule_of kind) points.now) }
 {
     let table = table_of_points(alloc, kind, points)?;
-    Ok(Instance::of_table(points.len() as u32, table))
+    Ok(Instance::of_table(alloc, points.len() as u32, table))
 }

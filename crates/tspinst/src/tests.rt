@@ -2,7 +2,7 @@
 
 ghost use Rattle.std.specs.Prelude.{◌<◌};
 
-use crate::{Instance, Part, ReadError, Refusal, from_points, read};
+use crate::{FixError, Instance, PairFault, Part, ReadError, Refusal, from_points, read};
 use cyc::Tour;
 use distx::{Kind, Point};
 use ports::{MemDesk, Room};
@@ -202,8 +202,8 @@ fn first_refusals_of_headers(rt: HostRuntime) -> Result<(), Fail> {
         ("", "NAME\r\nDIMENSION : 2001", (7, 2, 0, 0)),
         ("", "DIMENSION : +4", (7, 1, 0, 0)),
         // Fixed edges.
-        ("", "FIXED_EDGES_SECTION\n1 2\n-1\n", (14, 1, 0, 0)),
-        (POINTS, "FIXED_EDGES_SECTION : x", (14, 4, 0, 0)),
+        ("", "FIXED_EDGES_SECTION\n1 2\n-1\n", (8, 1, 0, 0)),
+        (POINTS, "FIXED_EDGES_SECTION : x", (12, 0, 0, 0)),
         (
             "",
             "TYPE TSP\nTYPE TSP FIXED_EDGES_SECTION\nFIXED_EDGES_SECTION",
@@ -321,6 +321,7 @@ fn refusals_print_their_numbers(rt: HostRuntime) -> Result<(), Fail> {
         (Refusal::BadNumber(7, NumberFault::Fractional), "9 7 2"),
         (Refusal::Asymmetric(7, 1, 2), "11 7 1 2"),
         (Refusal::Missing(Part::Distances), "13 0 4"),
+        (Refusal::FixedEdges(13, PairFault::Cycle), "14 13 3"),
     ];
     for (refusal, want) in rows {
         let told = format!(in alloc; "{refusal}")?;
@@ -422,5 +423,95 @@ fn the_square_with_one_line_changed(rt: HostRuntime) -> Result<(), Fail> {
     let cut =
         b"NAME : square\nTYPE : TSP\nDIMENSION : 4\nEDGE_WEIGHT_TYPE : EUC_2D\nNODE_COORD_SECTION\n1 0 0\n2 0 10\n";
     assert_eq!(rt; refused(alloc, cut), (12, 0, 0, 0));
+    Ok(())
+}
+
+/// The square's text with these words of fixed edges in the place of its last line.
+fn with_edges(alloc: Global, words: &str) -> Result<String, AllocError> {
+    with_line(
+        alloc,
+        10,
+        format!(in alloc; "FIXED_EDGES_SECTION\n{words}")?.as_str(),
+    )
+}
+
+#[test]
+fn fixed_edges_are_read(rt: HostRuntime) -> Result<(), Fail> {
+    let alloc = rt.alloc();
+    let square = told(alloc, SQUARE)?;
+    assert!(rt; square.fixed().is_empty() && !square.is_fixed(0, 2));
+    let crossed = told(alloc, with_edges(alloc, "1 3\n-1")?.as_bytes())?;
+    assert!(rt; crossed.fixed() == [(0, 2)].as_slice());
+    assert!(rt; crossed.is_fixed(0, 2) && crossed.is_fixed(2, 0));
+    assert!(rt; !crossed.is_fixed(0, 1) && !crossed.is_fixed(0, 4) && !crossed.is_fixed(9, 0));
+    assert!(rt; crossed != square && crossed.copy(alloc)? == crossed);
+    let before = with_line(alloc, 5, "FIXED_EDGES_SECTION\n3 1 -1\nNODE_COORD_SECTION")?;
+    assert!(rt; told(alloc, before.as_bytes())? == crossed);
+    let twice = with_edges(alloc, "1 3 3\n1 1 3 -1.0\nEOF")?;
+    assert!(rt; told(alloc, twice.as_bytes())? == crossed);
+    let whole = told(
+        alloc,
+        with_edges(alloc, "4 1 2 1\n3 2 2 3 4 3 -1")?.as_bytes(),
+    )?;
+    assert!(rt; whole.fixed() == [(0, 1), (0, 3), (1, 2), (2, 3)].as_slice());
+    assert!(rt; told(alloc, with_edges(alloc, "-1")?.as_bytes())? == square);
+    Ok(())
+}
+
+#[test]
+fn first_refusals_of_fixed_edges(rt: HostRuntime) -> Result<(), Fail> {
+    let alloc = rt.alloc();
+    let rows: [(&str, (u32, u32, u32, u32)); 13] = [
+        ("1 1 5 5", (14, 11, 1, 0)),
+        ("1 2 1 3\n1\n4", (14, 13, 2, 0)),
+        ("1 2\n2 3\n1 3\n-1", (14, 13, 3, 0)),
+        ("1 2\n1 2\n2 1\n3 2 3\n1", (14, 15, 3, 0)),
+        ("1 -1\n-1", (10, 11, 0, 0)),
+        ("1 5", (10, 11, 0, 0)),
+        ("0 1", (10, 11, 0, 0)),
+        ("-2 1", (10, 11, 0, 0)),
+        ("1.5 1", (9, 11, 2, 0)),
+        ("1\nx", (9, 12, 1, 0)),
+        ("1 2", (12, 0, 0, 0)),
+        ("1 2 3", (12, 0, 0, 0)),
+        ("1 2 -1\nFIXED_EDGES_SECTION\n-1", (3, 12, 0, 0)),
+    ];
+    for (words, want) in rows {
+        assert_eq!(rt;
+            refused(alloc, with_edges(alloc, words)?.as_bytes()),
+            want,
+            "{words}"
+        );
+    }
+    Ok(())
+}
+
+/// The place of the first pair that the square may not fix, and why, by its number; 9 and 0 where there is none.
+fn unfixable(alloc: Global, pairs: &[(u32, u32)]) -> Result<(usize, u32), Fail> {
+    match told(alloc, SQUARE)?.fix(alloc, pairs) {
+        Ok(_) => Ok((9, 0)),
+        Err(FixError::BadFixed { place, k }) => Ok((place, k as u32)),
+        Err(FixError::NoMemory) => Ok((9, 9)),
+    }
+}
+
+#[test]
+fn pairs_are_fixed_in_turn(rt: HostRuntime) -> Result<(), Fail> {
+    let alloc = rt.alloc();
+    assert_eq!(rt; unfixable(alloc, &[(1, 1)])?, (0, 1));
+    assert_eq!(rt; unfixable(alloc, &[(0, 1), (4, 4)])?, (1, 4));
+    assert_eq!(rt;
+        unfixable(alloc, &[(0, 1), (2, 0), (0, 3), (1, 1)])?,
+        (2, 2)
+    );
+    assert_eq!(rt;
+        unfixable(alloc, &[(0, 1), (1, 2), (1, 0), (2, 0)])?,
+        (3, 3)
+    );
+    let crossed = told(alloc, SQUARE)?.fix(alloc, &[(2, 0), (0, 2)])?;
+    assert!(rt; crossed == told(alloc, with_edges(alloc, "1 3\n-1")?.as_bytes())?);
+    let whole = crossed.fix(alloc, &[(0, 1), (3, 2), (2, 1), (3, 0)])?;
+    assert!(rt; whole.fixed() == [(0, 1), (0, 3), (1, 2), (2, 3)].as_slice());
+    assert!(rt; whole.fix(alloc, &[])? == told(alloc, SQUARE)?);
     Ok(())
 }

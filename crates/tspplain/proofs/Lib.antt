@@ -2,3 +2,4 @@ pub mod Steps
 pub mod SearchLemmas
 pub mod BitLemmas
 pub mod CrossingLemmas
+pub mod PathLemmas

@@ -42,7 +42,7 @@ done_already i best front city below had c l rest t = ⊎_elim
     (λ ge.
     let e : city ≡ c = omega arith in
     let there : has front c ≡ true = subst (λ k. has front k ≡ true) e had in
-    absurd (twice front c rest there t.distinct))
+    absurd (twice front c rest there t.is_tour.distinct))
     (cases_lt c city)
 
 city_below : (n : ℕ) (front : List ℕ) (c : ℕ) (rest : List ℕ) → AllByRecursion (λ k. k < n) (front ++ c ∷ rest) → c < n
@@ -53,6 +53,6 @@ city_below n (x ∷ xs) c rest a = city_below n xs c rest a.1
 pub all_done : (i : Instance) (best : Option (Vec ℕ)) (front : List ℕ) (city : ℕ)
     → length front < i.n → i.n ≤ city → IsDoneBelow i best front city → IsBestFrom i best front
 all_done i best front city short most below [] t =
-    let l = t.all in let e = length-append front [] in absurd (omega arith)
+    let l = t.is_tour.all in let e = length-append front [] in absurd (omega arith)
 all_done i best front city short most below (c ∷ rest) t =
-    let b = city_below i.n front c rest t.below in below c (omega arith) rest t
+    let b = city_below i.n front c rest t.is_tour.below in below c (omega arith) rest t

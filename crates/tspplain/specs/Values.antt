@@ -1,5 +1,5 @@
 -- The plain values as those that the definitions speak of.
-use Rattle.std.specs.Prelude.{ℕ, List, map}
+use Rattle.std.specs.Prelude.{ℕ, Bool, true, false, List, map}
 use Rattle.std.specs.Global.{Vec}
 use Rattle.tspplain.specs.declared.values.Rule.{Rule}
 use Rattle.tspplain.specs.declared.values.Rule.TheVariants as rules
@@ -25,7 +25,7 @@ rule_of rules.Manhattan = d.manhattan
 rule_of rules.Maximum = d.maximum
 
 abbrev pub instance_of : Instance → i.Instance
-instance_of x = record { n = x.n; table = x.table.items }
+instance_of x = record { n = x.n; table = x.table.items; fixed = x.fixed.items }
 
 abbrev pub lists : List (Vec ℕ) → List (List ℕ)
 lists sets = map (λ s. s.items) sets
@@ -36,10 +36,19 @@ cut_of n (cuts.Subtour s) = c.subtour n s.items
 cut_of n (cuts.Comb h ts) = c.comb n h.items (lists ts.items)
 
 abbrev pub condition_of : Condition → p.Condition
+condition_of (conditions.Fixed u v) = p.fixed u v
 condition_of (conditions.Absent u v) = p.absent u v
 condition_of (conditions.Present u v) = p.present u v
 condition_of (conditions.Two s) = p.two s.items
 condition_of (conditions.Four s) = p.four s.items
+
+-- a fixed pair, which has no depth
+abbrev pub is_fixed_condition : p.Condition → Bool
+is_fixed_condition (p.fixed u v) = true
+is_fixed_condition (p.absent u v) = false
+is_fixed_condition (p.present u v) = false
+is_fixed_condition (p.two s) = false
+is_fixed_condition (p.four s) = false
 
 abbrev pub path_of : List Condition → List p.Condition
 path_of path = map condition_of path

@@ -10,7 +10,7 @@ ghost use Rattle.tspdef.specs.Bounds as defs;
 ghost use Rattle.tspplain.specs.Values.{instance_of, condition_of, path_of, cut_duals_of, clique_duals_of, closing_of};
 
 use crate::cuts::{cut_coefficient, right_side};
-use crate::paths::{is_absent, is_present};
+use crate::paths::{branch_at, is_absent, is_present};
 use crate::tours::{crosses, dist};
 use crate::values::{CliqueDual, Closing, Condition, CutDual, Instance};
 
@@ -64,6 +64,7 @@ fn condition_price(condition: &Condition, dual: u64, u: u32, v: u32) -> i128
     ensures high { result ≤ℤ pos (2 ^ 62) }
 {
     match condition {
+        Condition::Fixed(_, _) => 0,
         Condition::Absent(_, _) => 0,
         Condition::Present(_, _) => 0,
         Condition::Two(set) => {
@@ -91,6 +92,7 @@ fn condition_worth(condition: &Condition, dual: u64) -> i128
     ensures high { result ≤ℤ pos (2 ^ 64) }
 {
     match condition {
+        Condition::Fixed(_, _) => 0,
         Condition::Absent(_, _) => 0,
         Condition::Present(_, _) => 0,
         Condition::Two(_) => -2 * i128::from(dual),
@@ -98,41 +100,29 @@ fn condition_worth(condition: &Condition, dual: u64) -> i128
     }
 }
 
-/// The same for the condition at a place of the path, from 0 on; 0 where there is none.
+/// The same for the condition at a place of the path behind the fixed pairs, from 0 on; 0 where there is none.
 fn price_at(path: &[Condition], place: u32, dual: u64, u: u32, v: u32) -> i128
     requires { dual ≤ 2 ^ 62 }
-    ensures value { result ≡ defs.price (defs.condition_row (slice_get (path_of path.now) place) dual ∷ []) u v }
+    ensures value { result ≡ defs.price (defs.condition_row (slice_get (path_defs.branches (path_of path.now)) place) dual ∷ []) u v }
     ensures low { neg_ℤ (pos (2 ^ 62)) ≤ℤ result }
     ensures high { result ≤ℤ pos (2 ^ 62) }
 {
-    match path.split_first() {
+    match branch_at(path, place) {
         None => 0,
-        Some((condition, rest)) => {
-            if place == 0 {
-                condition_price(condition, dual, u, v)
-            } else {
-                price_at(rest, place - 1, dual, u, v)
-            }
-        }
+        Some(condition) => condition_price(condition, dual, u, v),
     }
 }
 
 /// The same for what it adds to the bound.
 fn worth_at(path: &[Condition], place: u32, dual: u64) -> i128
     requires { dual ≤ 2 ^ 62 }
-    ensures value { result ≡ defs.worth (defs.condition_row (slice_get (path_of path.now) place) dual ∷ []) }
+    ensures value { result ≡ defs.worth (defs.condition_row (slice_get (path_defs.branches (path_of path.now)) place) dual ∷ []) }
     ensures low { neg_ℤ (pos (2 ^ 64)) ≤ℤ result }
     ensures high { result ≤ℤ pos (2 ^ 64) }
 {
-    match path.split_first() {
+    match branch_at(path, place) {
         None => 0,
-        Some((condition, rest)) => {
-            if place == 0 {
-                condition_worth(condition, dual)
-            } else {
-                worth_at(rest, place - 1, dual)
-            }
-        }
+        Some(condition) => condition_worth(condition, dual),
     }
 }
 

@@ -8,6 +8,7 @@ ghost use Rattle.tspdef.specs.Closings as defs;
 ghost use Rattle.tspplain.specs.Values.{condition_of, path_of, cut_duals_of, clique_duals_of, closing_of};
 
 use crate::cuts::is_cut;
+use crate::paths::branch_at;
 use crate::values::{CliqueDual, Closing, Condition, CutDual};
 
 /// The greatest size of a dual.
@@ -84,6 +85,7 @@ fn is_on_set(condition: &Condition) -> bool
     ensures { IsTrue result ↔ path_defs.IsClique (Some (condition_of condition.now)) }
 {
     match condition {
+        Condition::Fixed(_, _) => false,
         Condition::Absent(_, _) => false,
         Condition::Present(_, _) => false,
         Condition::Two(_) => true,
@@ -91,19 +93,13 @@ fn is_on_set(condition: &Condition) -> bool
     }
 }
 
-/// Whether the condition at a place, from 0 on, is on a set.
+/// Whether the condition at a place behind the fixed pairs, from 0 on, is on a set.
 fn is_clique_at(path: &[Condition], place: u32) -> bool
-    ensures { IsTrue result ↔ path_defs.IsClique (slice_get (path_of path.now) place) }
+    ensures { IsTrue result ↔ path_defs.IsClique (slice_get (path_defs.branches (path_of path.now)) place) }
 {
-    match path.split_first() {
+    match branch_at(path, place) {
         None => false,
-        Some((condition, rest)) => {
-            if place == 0 {
-                is_on_set(condition)
-            } else {
-                is_clique_at(rest, place - 1)
-            }
-        }
+        Some(condition) => is_on_set(condition),
     }
 }
 

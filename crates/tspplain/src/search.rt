@@ -6,7 +6,7 @@ ghost use Rattle.tspplain.specs.Values.{instance_of};
 ghost use Rattle.tspplain.specs.Searches.{IsTourIfAny, IsNoLonger, IsShorter, IsBestFrom, Improves};
 
 use crate::sets::has;
-use crate::tours::{is_tour, tour_length};
+use crate::tours::{is_tour_of, tour_length};
 use crate::values::Instance;
 use std::alloc::{AllocError, Global};
 
@@ -32,7 +32,7 @@ fn offer(
     ensures best { OnOk result (instances.IsTourOf (instance_of instance.now) tour.now → IsNoLonger (instance_of instance.now) best.new tour.now) }
     ensures improves { OnOk result (Improves (instance_of instance.now) best.old best.new) }
 {
-    if is_tour(instance.n, tour) && is_shorter(instance, tour, best) {
+    if is_tour_of(instance, tour) && is_shorter(instance, tour, best) {
         *best = Some(Vec::from_slice(alloc, tour)?);
     }
     Ok(())
@@ -64,7 +64,7 @@ fn extend(
     Ok(())
 }
 
-/// A shortest tour, by going through all tours; `None` where there is none. Meant for nine cities at most.
+/// A shortest tour that joins the fixed pairs, by going through all tours; `None` where there is none. Meant for nine cities at most.
 pub fn least_tour(alloc: Global, instance: &Instance) -> Result<Option<Vec<u32>>, AllocError>
     ensures tour { IfOk result (λ best. IsTourIfAny (instance_of instance.now) best) }
     ensures least { IfOk result (λ best. (other : List ℕ) → instances.IsTourOf (instance_of instance.now) other → IsNoLonger (instance_of instance.now) best other) }

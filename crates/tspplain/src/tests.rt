@@ -25,7 +25,11 @@ fn from_upper(alloc: Global, n: u32, weights: &[u32]) -> Result<Instance, AllocE
             table.push(weight)?;
         }
     }
-    Ok(Instance { n, table })
+    Ok(Instance {
+        n,
+        table,
+        fixed: Vec::new(alloc),
+    })
 }
 
 /// The corners of a square of side 10, in turn.
@@ -145,6 +149,19 @@ fn least_tours_have_the_known_lengths(rt: HostRuntime) -> Result<(), Fail> {
     }
     assert_eq!(rt; crossings(&[0, 2], &[0, 1, 2, 3]), 4);
     assert_eq!(rt; crossings(&[0, 1], &[0, 1, 2, 3]), 2);
+    Ok(())
+}
+
+#[test]
+fn fixed_pairs_are_in_the_least_tour(rt: HostRuntime) -> Result<(), Fail> {
+    let alloc = rt.alloc();
+    let mut bridge = square(alloc)?;
+    bridge.fixed.push((0, 2))?;
+    let best = least_tour(alloc, &bridge)?.ok_or("no tour")?;
+    assert_eq!(rt; tour_length(&bridge, best.as_slice()), 48);
+    bridge.fixed.push((0, 1))?;
+    bridge.fixed.push((1, 2))?;
+    assert!(rt; least_tour(alloc, &bridge)?.is_none());
     Ok(())
 }
 

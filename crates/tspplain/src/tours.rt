@@ -4,9 +4,11 @@ ghost use Rattle.std.specs.Prelude.{◌≡◌, ◌+◌, ◌*◌, ◌^◌, ◌<�
 ghost use Rattle.std.specs.List.{AllByRecursion};
 ghost use Rattle.tspdef.specs.Sets as sets;
 ghost use Rattle.tspdef.specs.Tours as tours;
+ghost use Rattle.tspdef.specs.Fixed as fixed;
 ghost use Rattle.tspdef.specs.Instances as instances;
 ghost use Rattle.tspplain.specs.Values.{instance_of};
 
+use crate::paths::joins;
 use crate::sets::has;
 use crate::values::Instance;
 
@@ -93,6 +95,43 @@ pub fn is_tour(n: u32, cities: &[u32]) -> bool
     ensures { IsTrue result ↔ tours.IsTour n cities.now }
 {
     cities.len() == n as usize && are_below(n, cities) && are_distinct(cities)
+}
+
+/// Whether a walk from `a` through the rest to `home` has a step that joins the two cities.
+fn walk_joins(u: u32, v: u32, home: u32, a: u32, rest: &[u32]) -> bool
+    ensures { result ≡ tours.has_step (tours.walk home a rest.now) u v }
+{
+    match rest.split_first() {
+        None => joins(u, v, a, home),
+        Some((b, more)) => joins(u, v, a, *b) || walk_joins(u, v, home, *b, more),
+    }
+}
+
+/// Whether a step of the tour joins the two cities.
+fn has_step(tour: &[u32], u: u32, v: u32) -> bool
+    ensures { result ≡ tours.has_step (tours.steps tour.now) u v }
+{
+    match tour.split_first() {
+        None => false,
+        Some((a, rest)) => walk_joins(u, v, *a, *a, rest),
+    }
+}
+
+/// Whether each of the pairs is a step of the tour.
+fn are_steps(tour: &[u32], pairs: &[(u32, u32)]) -> bool
+    ensures { IsTrue result ↔ fixed.AreSteps (tours.steps tour.now) pairs.now }
+{
+    match pairs.split_first() {
+        None => true,
+        Some((pair, rest)) => has_step(tour, pair.0, pair.1) && are_steps(tour, rest),
+    }
+}
+
+/// Whether the list is a tour of the instance: each city once, and each fixed pair joined.
+pub fn is_tour_of(instance: &Instance, cities: &[u32]) -> bool
+    ensures { IsTrue result ↔ instances.IsTourOf (instance_of instance.now) cities.now }
+{
+    is_tour(instance.n, cities) && are_steps(cities, instance.fixed.as_slice())
 }
 
 /// The last city of a list that begins with `a`.

@@ -1,6 +1,6 @@
 //! Sound and accepted trees.
 
-ghost use Rattle.std.specs.Prelude.{◌≡◌, ◌*◌, ◌≤◌, ◌^◌, ◌↔◌, IsTrue, IfOk, OnOk, IsOkAnd, pos, neg_ℤ, ◌≤ℤ◌, ℕ, false};
+ghost use Rattle.std.specs.Prelude.{◌≡◌, ◌*◌, ◌≤◌, ◌^◌, ◌↔◌, IsTrue, IfOk, OnOk, ◌++◌, IsOkAnd, pos, neg_ℤ, ◌≤ℤ◌, ℕ, false};
 ghost use Rattle.tspdef.specs.Bounds as bound_defs;
 ghost use Rattle.tspdef.specs.Paths as path_defs;
 ghost use Rattle.tspdef.specs.Trees as defs;
@@ -11,7 +11,7 @@ use crate::bounds::{SCALE, bound};
 use crate::closings::is_closing;
 use crate::paths::is_decided;
 use crate::sets::is_proper;
-use crate::tours::{is_canonical, is_tour, tour_length};
+use crate::tours::{is_canonical, is_tour_of, tour_length};
 use crate::values::{Closing, Condition, Instance, Tree};
 use std::alloc::{AllocError, Global};
 
@@ -94,6 +94,20 @@ pub fn has_none_open(tree: &Tree) -> bool
     }
 }
 
+/// Adds the fixed pairs to a path.
+#[tactic(auto, using(crate::proofs::PathLemmas::fixed_next, crate::proofs::PathLemmas::none_fixed))]
+fn fix_all(path: &mut Vec<Condition>, fixed: &[(u32, u32)]) -> Result<(), AllocError>
+    ensures { OnOk result (path_of path.new.items ≡ path_of path.old.items ++ path_defs.fixed_conditions fixed.now) }
+{
+    match fixed.split_first() {
+        None => Ok(()),
+        Some((pair, rest)) => {
+            path.push(Condition::Fixed(pair.0, pair.1))?;
+            fix_all(path, rest)
+        }
+    }
+}
+
 /// Whether the tree is sound for tours of the length, from the root on.
 pub fn is_sound_for(
     alloc: Global,
@@ -105,6 +119,7 @@ pub fn is_sound_for(
     ensures { IfOk result (λ yes. IsTrue yes ↔ defs.IsSoundFor (instance_of instance.now) length (tree_of instance.now.n tree.now)) }
 {
     let mut path = Vec::new(alloc);
+    fix_all(&mut path, instance.fixed.as_slice())?;
     is_sound(alloc, instance, needed(length), &mut path, tree)
 }
 
@@ -122,7 +137,7 @@ pub fn is_accepted(
     let sound = is_sound_for(alloc, instance, length, tree)?;
     Ok(
         sound
-            && is_tour(instance.n, tour)
+            && is_tour_of(instance, tour)
             && is_canonical(tour)
             && tour_length(instance, tour) == u128::from(length)
             && has_none_open(tree),

@@ -10,11 +10,13 @@ pub enum Rule {
     Maximum,
 }
 
-/// `n` cities, and the distance of `u` and `v`, of which `u` is the lesser, at place `u * n + v` of the table.
+/// `n` cities, and the distance of `u` and `v`, of which `u` is the lesser, at place `u * n + v` of the table. Each tour joins each
+/// of the fixed pairs.
 #[derive(Drop)]
 pub struct Instance {
     pub n: u32,
     pub table: Vec<u32>,
+    pub fixed: Vec<(u32, u32)>,
 }
 
 /// A subtour cut, or a comb with its handle and its teeth.
@@ -24,9 +26,11 @@ pub enum Cut {
     Comb(Vec<u32>, Vec<Vec<u32>>),
 }
 
-/// A pair that a tour does not use, or uses; a set that it crosses exactly twice, or four times at least.
+/// A fixed pair, which has no depth; a pair that a tour does not use, or uses; a set that it crosses exactly twice, or four times at
+/// least.
 #[derive(Drop)]
 pub enum Condition {
+    Fixed(u32, u32),
     Absent(u32, u32),
     Present(u32, u32),
     Two(Vec<u32>),
@@ -40,7 +44,7 @@ pub struct CutDual {
     pub dual: u64,
 }
 
-/// The dual of the condition at a depth of the path; depths count from 1.
+/// The dual of the condition at a depth of the path; depths count from 1, behind the fixed pairs.
 #[derive(Clone, Copy, Debug, PartialEq, Eq)]
 pub struct CliqueDual {
     pub depth: u32,

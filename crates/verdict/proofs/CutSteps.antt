@@ -45,27 +45,27 @@ avoids j l false o q xs e h = h
 
 -- ---- the cuts
 
-pub cuts_forth : (j : Tests) (l : ℕ) (h : Head) (m : ℕ) (xs : List Item) → h.long ≡ l → CutsLeft j h m xs → Left j l (cuts_on h m) xs
+pub cuts_forth : (j : Tests) (l : ℕ) (h : Head) (m : ℕ) (xs : List Item) → h.long ≡ l → CutsLeft j h m xs → Left j l (cuts_on j h m) xs
 cuts_forth j l h zero xs e c =
     let none = empty c.more c.count in
     let same : xs ≡ c.rest = c.said ∙ ap (λ r. flat_map listed_items r ++ c.rest) none in
     let heads : with_cuts h c.more ≡ h = ap (λ r. record { long = h.long; cuts = h.cuts ++ r }) none ∙ ap (λ r. record { long = h.long; cuts = r }) (append_nil h.cuts) in
-    (e, subst (λ q. Trees j q ([] ∷ []) xs) heads (subst (λ r. Trees j (with_cuts h c.more) ([] ∷ []) r) (sym same) c.trees))
+    (e, subst (λ q. Trees j q (j.root ∷ []) xs) heads (subst (λ r. Trees j (with_cuts h c.more) (j.root ∷ []) r) (sym same) c.trees))
 cuts_forth j l h (suc m) xs e c = (e, c)
 
-pub cuts_back : (j : Tests) (l : ℕ) (h : Head) (m : ℕ) (xs : List Item) → Left j l (cuts_on h m) xs → (h.long ≡ l) × CutsLeft j h m xs
-cuts_back j l h zero xs s = (s.0, record { more = []; rest = xs; said = refl; count = refl; cuts = tt; trees = subst (λ q. Trees j q ([] ∷ []) xs) (ap (λ r. record { long = h.long; cuts = r }) (sym (append_nil h.cuts))) s.1 })
+pub cuts_back : (j : Tests) (l : ℕ) (h : Head) (m : ℕ) (xs : List Item) → Left j l (cuts_on j h m) xs → (h.long ≡ l) × CutsLeft j h m xs
+cuts_back j l h zero xs s = (s.0, record { more = []; rest = xs; said = refl; count = refl; cuts = tt; trees = subst (λ q. Trees j q (j.root ∷ []) xs) (ap (λ r. record { long = h.long; cuts = r }) (sym (append_nil h.cuts))) s.1 })
 cuts_back j l h (suc m) xs s = s
 
 heads_more : (h : Head) (c : Listed) (cs : List Listed) → with_cuts (with_cut h c) cs ≡ with_cuts h (c ∷ cs)
 heads_more h c cs = ap (λ r. record { long = h.long; cuts = r }) (append_assoc h.cuts (c ∷ []) cs)
 
 cut_end_forth : (j : Tests) (l at : ℕ) (h : Head) (m : ℕ) (c : Listed) (xs : List Item) → h.long ≡ l → j.cut c ≡ true → CutsLeft j (with_cut h c) m xs → LeftOf j l (cut_end j at h m c) xs
-cut_end_forth j l at h m c xs e b k = passes j l (j.cut c) (go (cuts_on (with_cut h c) m)) (refused 5 at) xs b (cuts_forth j l (with_cut h c) m xs e k)
+cut_end_forth j l at h m c xs e b k = passes j l (j.cut c) (go (cuts_on j (with_cut h c) m)) (refused 5 at) xs b (cuts_forth j l (with_cut h c) m xs e k)
 
 cut_end_back : (j : Tests) (l at : ℕ) (h : Head) (m : ℕ) (c : Listed) (xs : List Item) → LeftOf j l (cut_end j at h m c) xs → (h.long ≡ l) × (j.cut c ≡ true) × CutsLeft j (with_cut h c) m xs
 cut_end_back j l at h m c xs k =
-    let p = passed j l (j.cut c) (cuts_on (with_cut h c) m) 5 at xs k in
+    let p = passed j l (j.cut c) (cuts_on j (with_cut h c) m) 5 at xs k in
     let q = cuts_back j l (with_cut h c) m xs p.1 in
     (q.0, p.0, q.1)
 
@@ -77,7 +77,7 @@ cuts_more j h m c xs ys b e k = record {
   said = e ∙ (ap (λ r. listed_items c ++ r) k.said ∙ sym (append_assoc (listed_items c) (flat_map listed_items k.more) k.rest));
   count = let q = k.count in omega arith;
   cuts = (b, k.cuts);
-  trees = subst (λ q. Trees j q ([] ∷ []) k.rest) (heads_more h c k.more) k.trees;
+  trees = subst (λ q. Trees j q (j.root ∷ []) k.rest) (heads_more h c k.more) k.trees;
 }
 
 teeth_forth : (j : Tests) (l at : ℕ) (h : Head) (m t : ℕ) (s : List ℕ) (ts : List (List ℕ)) (xs : List Item) → h.long ≡ l → TeethLeft j h m t s ts xs → LeftOf j l (teeth_on j at h m t s ts) xs
@@ -106,7 +106,7 @@ teeth_back j l at h m zero s ts xs k =
 teeth_back j l at h m (suc t) s ts xs k = k
 
 pub on_cut_forth : (j : Tests) (l : ℕ) (h : Head) (m at : ℕ) (x : Item) (xs : List Item) → h.long ≡ l → (more : List Listed) (rest : List Item) → x ∷ xs ≡ flat_map listed_items more ++ rest → length more ≡ suc m
-    → AllByRecursion (λ c. j.cut c ≡ true) more → Trees j (with_cuts h more) ([] ∷ []) rest → LeftOf j l (on_cut j h m at x) xs
+    → AllByRecursion (λ c. j.cut c ≡ true) more → Trees j (with_cuts h more) (j.root ∷ []) rest → LeftOf j l (on_cut j h m at x) xs
 on_cut_forth j l h m at x xs e [] rest said n cuts trees = absurd (omega arith)
 on_cut_forth j l h m at x xs e (subtour_cut s ∷ cs) rest said n cuts trees =
     let head : subtour_line s ≡ x = cc in
@@ -116,7 +116,7 @@ on_cut_forth j l h m at x xs e (subtour_cut s ∷ cs) rest said n cuts trees =
       said = cc;
       count = omega arith;
       cuts = cuts.1;
-      trees = subst (λ q. Trees j q ([] ∷ []) rest) (sym (heads_more h (subtour_cut s) cs)) trees;
+      trees = subst (λ q. Trees j q (j.root ∷ []) rest) (sym (heads_more h (subtour_cut s) cs)) trees;
     }))
 on_cut_forth j l h m at x xs e (comb_cut s ts ∷ cs) rest said n cuts trees =
     let head : comb_line (length ts) ≡ x = cc in
@@ -138,7 +138,7 @@ on_cut_forth j l h m at x xs e (comb_cut s ts ∷ cs) rest said n cuts trees =
             said = refl;
             count = omega arith;
             cuts = cuts.1;
-            trees = subst (λ q. Trees j q ([] ∷ []) rest) (sym (heads_more h (comb_cut s ts) cs)) trees;
+            trees = subst (λ q. Trees j q (j.root ∷ []) rest) (sym (heads_more h (comb_cut s ts) cs)) trees;
           };
         };
       },

@@ -6,15 +6,17 @@ use Rattle.std.specs.List.{AllByRecursion}
 use Rattle.std.proofs.lemmas.Int.{ints}
 use Rattle.std.proofs.lemmas.Bool.{and_parts, and_from, eq-eqb, eqb-true, leb-true, le-leb, ltb-true, lt-ltb, not-true}
 use Rattle.tspdef.specs.Sets.{has, RisesFrom, IsProper, meet, meets_any, AreDisjoint, leaves}
-use Rattle.tspdef.specs.Tours.{AreDistinct, IsTour, last_city, IsCanonical}
+use Rattle.tspdef.specs.Tours.{AreDistinct, IsTour, steps, has_step, last_city, IsCanonical}
+use Rattle.tspdef.specs.Fixed.{AreSteps}
+use Rattle.tspdef.specs.Instances.{Instance, IsTourOf}
 use Rattle.tspdef.specs.Cuts.{Cut, subtour, comb, IsTooth, IsComb, IsCut}
-use Rattle.tspdef.specs.Paths.{Condition, absent, present, two, four, IsClique}
+use Rattle.tspdef.specs.Paths.{Condition, fixed, absent, present, two, four, IsClique}
 use Rattle.std.specs.Prelude.{Option, Some, None}
 use Rattle.certdef.specs.Items.{rises, each_below}
 use Rattle.tspdef.specs.Bounds.{bound, needed}
 use Rattle.certdef.specs.Accepted.{from_zero, cuts_of, closing_of, is_clique}
-use Rattle.verdict.specs.Decided.{IsTourFromOne, ToursAreDecided, CanonicalIsDecided, ToursFromOneAreDecided, ProperIsDecided, CutsAreDecided, CliquesAreDecided, ClosedLeavesAreDecided}
-use Rattle.certdef.specs.Tests.{each_positive, are_distinct, is_tour, is_canonical, is_tour_from_one, is_proper, are_disjoint, are_teeth, is_cut}
+use Rattle.verdict.specs.Decided.{IsTourFromOne, ToursAreDecided, StepsAreDecided, ToursOfInstancesAreDecided, CanonicalIsDecided, ToursFromOneAreDecided, ProperIsDecided, CutsAreDecided, CliquesAreDecided, ClosedLeavesAreDecided}
+use Rattle.certdef.specs.Tests.{each_positive, are_distinct, is_tour, are_steps, is_tour_of, is_canonical, is_tour_from_one, is_proper, are_disjoint, are_teeth, is_cut}
 
 not_true : (b : Bool) → b ≡ false → not b ≡ true
 not_true true e = cc
@@ -47,6 +49,22 @@ tour_yes n cs e =
 pub yes_tour : (n : ℕ) (cs : List ℕ) → IsTour n cs → is_tour n cs ≡ true
 yes_tour n cs h = and_from (length cs == n) (each_below n cs && are_distinct cs) (eq-eqb (length cs) n h.all) (and_from (each_below n cs) (are_distinct cs) (yes_below n cs h.below) (yes_distinct cs h.distinct))
 
+pub steps_yes : (es pairs : List (ℕ × ℕ)) → are_steps es pairs ≡ true → AreSteps es pairs
+steps_yes es [] e = tt
+steps_yes es (p ∷ ps) e = let q = and_parts (has_step es p.0 p.1) (are_steps es ps) e in (q.0, steps_yes es ps q.1)
+
+pub yes_steps : (es pairs : List (ℕ × ℕ)) → AreSteps es pairs → are_steps es pairs ≡ true
+yes_steps es [] h = refl
+yes_steps es (p ∷ ps) h = and_from (has_step es p.0 p.1) (are_steps es ps) h.0 (yes_steps es ps h.1)
+
+pub tour_of_yes : (i : Instance) (cs : List ℕ) → is_tour_of i cs ≡ true → IsTourOf i cs
+tour_of_yes i cs e =
+    let p = and_parts (is_tour i.n cs) (are_steps (steps cs) i.fixed) e in
+    record { is_tour = tour_yes i.n cs p.0; holds_fixed = steps_yes (steps cs) i.fixed p.1 }
+
+pub yes_tour_of : (i : Instance) (cs : List ℕ) → IsTourOf i cs → is_tour_of i cs ≡ true
+yes_tour_of i cs h = and_from (is_tour i.n cs) (are_steps (steps cs) i.fixed) (yes_tour i.n cs h.is_tour) (yes_steps (steps cs) i.fixed h.holds_fixed)
+
 pub canonical_yes : (cs : List ℕ) → is_canonical cs ≡ true → IsCanonical cs
 canonical_yes [] e = cc
 canonical_yes (a ∷ []) e = cc
@@ -65,15 +83,15 @@ pub yes_positive : (cs : List ℕ) → AllByRecursion (λ c. 1 ≤ c) cs → eac
 yes_positive [] h = refl
 yes_positive (c ∷ cs) h = and_from (nat_lt 0 c) (each_positive cs) (lt-ltb 0 c h.0) (yes_positive cs h.1)
 
-pub tour_from_one_yes : (n : ℕ) (cs : List ℕ) → is_tour_from_one n cs ≡ true → IsTourFromOne n cs
-tour_from_one_yes n cs e =
-    let p = and_parts (each_positive cs) (is_tour n (from_zero cs) && is_canonical (from_zero cs)) e in
-    let q = and_parts (is_tour n (from_zero cs)) (is_canonical (from_zero cs)) p.1 in
-    record { from_one = positive_yes cs p.0; is_tour = tour_yes n (from_zero cs) q.0; canonical = canonical_yes (from_zero cs) q.1 }
+pub tour_from_one_yes : (i : Instance) (cs : List ℕ) → is_tour_from_one i cs ≡ true → IsTourFromOne i cs
+tour_from_one_yes i cs e =
+    let p = and_parts (each_positive cs) (is_tour_of i (from_zero cs) && is_canonical (from_zero cs)) e in
+    let q = and_parts (is_tour_of i (from_zero cs)) (is_canonical (from_zero cs)) p.1 in
+    record { from_one = positive_yes cs p.0; is_tour = tour_of_yes i (from_zero cs) q.0; canonical = canonical_yes (from_zero cs) q.1 }
 
-pub yes_tour_from_one : (n : ℕ) (cs : List ℕ) → AllByRecursion (λ c. 1 ≤ c) cs → IsTour n (from_zero cs) → IsCanonical (from_zero cs) → is_tour_from_one n cs ≡ true
-yes_tour_from_one n cs p t c = and_from (each_positive cs) (is_tour n (from_zero cs) && is_canonical (from_zero cs)) (yes_positive cs p)
-    (and_from (is_tour n (from_zero cs)) (is_canonical (from_zero cs)) (yes_tour n (from_zero cs) t) (yes_canonical (from_zero cs) c))
+pub yes_tour_from_one : (i : Instance) (cs : List ℕ) → AllByRecursion (λ c. 1 ≤ c) cs → IsTourOf i (from_zero cs) → IsCanonical (from_zero cs) → is_tour_from_one i cs ≡ true
+yes_tour_from_one i cs p t c = and_from (each_positive cs) (is_tour_of i (from_zero cs) && is_canonical (from_zero cs)) (yes_positive cs p)
+    (and_from (is_tour_of i (from_zero cs)) (is_canonical (from_zero cs)) (yes_tour_of i (from_zero cs) t) (yes_canonical (from_zero cs) c))
 
 -- ---- sets
 
@@ -158,6 +176,7 @@ yes_cut n (comb m h ts) k =
 
 pub clique_yes : (c : Option Condition) → is_clique c ≡ true → IsClique c
 clique_yes None e = cc
+clique_yes (Some (fixed u v)) e = cc
 clique_yes (Some (absent u v)) e = cc
 clique_yes (Some (present u v)) e = cc
 clique_yes (Some (two s)) e = tt
@@ -173,6 +192,7 @@ z_below a b h = grind (arith, ints)
 
 pub yes_clique : (c : Option Condition) → IsClique c → is_clique c ≡ true
 yes_clique None h = absurd h
+yes_clique (Some (fixed u v)) h = absurd h
 yes_clique (Some (absent u v)) h = absurd h
 yes_clique (Some (present u v)) h = absurd h
 yes_clique (Some (two s)) h = refl
@@ -181,11 +201,17 @@ yes_clique (Some (four s)) h = refl
 pub tours_are_decided : ToursAreDecided
 tours_are_decided n cs = (tour_yes n cs, yes_tour n cs)
 
+pub steps_are_decided : StepsAreDecided
+steps_are_decided es pairs = (steps_yes es pairs, yes_steps es pairs)
+
+pub tours_of_instances_are_decided : ToursOfInstancesAreDecided
+tours_of_instances_are_decided i cs = (tour_of_yes i cs, yes_tour_of i cs)
+
 pub canonical_is_decided : CanonicalIsDecided
 canonical_is_decided cs = (canonical_yes cs, yes_canonical cs)
 
 pub tours_from_one_are_decided : ToursFromOneAreDecided
-tours_from_one_are_decided n cs = (tour_from_one_yes n cs, λ k. yes_tour_from_one n cs k.from_one k.is_tour k.canonical)
+tours_from_one_are_decided i cs = (tour_from_one_yes i cs, λ k. yes_tour_from_one i cs k.from_one k.is_tour k.canonical)
 
 pub proper_is_decided : ProperIsDecided
 proper_is_decided n s = (proper_yes n s, yes_proper n s)

@@ -99,18 +99,18 @@ length_fault i m x k at e = out_of_place i m wants_length (Some x) k at refl (λ
 
 tour_fault : (i : Instance) (l m : ℕ) (x : Item) (k at : ℕ) → m ≡ 4 → on_tour (verifier i) l m x ≡ refused k at → Fault i (wants_tour l) m (Some x) k at
 tour_fault i l m (tour_line cs) k at fourth e = ⊎_elim
-    (λ f. not_a_tour (record { refusal = f.1; line = f.2; fourth = fourth; cities = cs; says = refl; none = λ t. not_both (is_tour_from_one i.n cs) f.0 (yes_tour_from_one i.n cs t.from_one t.is_tour t.canonical) }))
-    (λ f. wrong_length (record { refusal = f.2; line = f.3; fourth = fourth; long = l; said = refl; cities = cs; says = refl; tour = tour_from_one_yes i.n cs f.0; other = λ same. not_both (length_in i (from_zero cs) == l) f.1 (eq-eqb (length_in i (from_zero cs)) l same) }))
-    (tour_failed (is_tour_from_one i.n cs) (length_in i (from_zero cs) == l) (wants_count l) m k at e)
+    (λ f. not_a_tour (record { refusal = f.1; line = f.2; fourth = fourth; cities = cs; says = refl; none = λ t. not_both (is_tour_from_one i cs) f.0 (yes_tour_from_one i cs t.from_one t.is_tour t.canonical) }))
+    (λ f. wrong_length (record { refusal = f.2; line = f.3; fourth = fourth; long = l; said = refl; cities = cs; says = refl; tour = tour_from_one_yes i cs f.0; other = λ same. not_both (length_in i (from_zero cs) == l) f.1 (eq-eqb (length_in i (from_zero cs)) l same) }))
+    (tour_failed (is_tour_from_one i cs) (length_in i (from_zero cs) == l) (wants_count l) m k at e)
 tour_fault i l m x k at fourth e = out_of_place i m (wants_tour l) (Some x) k at refl (λ h. h) e
 
-count_fault : (i : Instance) (l m : ℕ) (x : Item) (k at : ℕ) → on_count l m x ≡ refused k at → Fault i (wants_count l) m (Some x) k at
+count_fault : (i : Instance) (l m : ℕ) (x : Item) (k at : ℕ) → on_count (verifier i) l m x ≡ refused k at → Fault i (wants_count l) m (Some x) k at
 count_fault i l m (cuts_line c) k at e = cc
 count_fault i l m x k at e = out_of_place i m (wants_count l) (Some x) k at refl (λ h. h) e
 
 cut_fault : (i : Instance) (h : Head) (c m : ℕ) (x : Item) (k at : ℕ) → fits i.n x ≡ true → on_cut (verifier i) h c m x ≡ refused k at → Fault i (wants_cut h c) m (Some x) k at
 cut_fault i h c m (subtour_line s) k at are e =
-    let f = failed (is_cut i.n (subtour i.n (from_zero s))) (cuts_on (with_cut h (subtour_cut s)) c) 5 m k at e in
+    let f = failed (is_cut i.n (subtour i.n (from_zero s))) (cuts_on (verifier i) (with_cut h (subtour_cut s)) c) 5 m k at e in
     let none : IsProper i.n (from_zero s) → ⊥ = λ p. not_both (is_cut i.n (subtour i.n (from_zero s))) f.0 (yes_cut i.n (subtour i.n (from_zero s)) (refl, p)) in
     set_of_all (record { refusal = f.1; line = f.2; set = s; says = inl refl; all = whole_set i.n s (set_of i.n (subtour_line s) are) none })
 cut_fault i h c m (comb_line t) k at are e = cc
@@ -121,7 +121,7 @@ comb_fault : (i : Instance) (s : Stage) (m : ℕ) (x : Option Item) (k at : ℕ)
     → teeth_on (verifier i) from h c t handle teeth ≡ refused k at → Fault i s m x k at
 comb_fault i s m x k at h c from zero handle teeth w last some e =
     let z = comb i.n (from_zero handle) (map from_zero teeth) in
-    let f = failed (is_cut i.n z) (cuts_on (with_cut h (comb_cut handle teeth)) c) 5 from k at e in
+    let f = failed (is_cut i.n z) (cuts_on (verifier i) (with_cut h (comb_cut handle teeth)) c) 5 from k at e in
     let same = f.2 in
     not_a_comb (record {
       refusal = f.1;

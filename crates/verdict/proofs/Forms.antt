@@ -36,15 +36,15 @@ form_after (refused k at) = None
 more : (h : Head) (c : Listed) → length (with_cut h c).cuts ≡ length h.cuts + 1
 more h c = length-append h.cuts (c ∷ [])
 
-cuts_form : (h : Head) (m : ℕ) → form_of (cuts_on h m) ≡ cuts_then m (length h.cuts)
-cuts_form h zero = refl
-cuts_form h (suc m) = refl
+cuts_form : (n : ℕ) (h : Head) (m : ℕ) → form_of (cuts_on (form_only n) h m) ≡ cuts_then m (length h.cuts)
+cuts_form n h zero = refl
+cuts_form n h (suc m) = refl
 
-cuts_more : (h : Head) (c : Listed) (m : ℕ) → form_of (cuts_on (with_cut h c) m) ≡ cuts_then m (length h.cuts + 1)
-cuts_more h c m = cuts_form (with_cut h c) m ∙ ap (cuts_then m) (more h c)
+cuts_more : (n : ℕ) (h : Head) (c : Listed) (m : ℕ) → form_of (cuts_on (form_only n) (with_cut h c) m) ≡ cuts_then m (length h.cuts + 1)
+cuts_more n h c m = cuts_form n (with_cut h c) m ∙ ap (cuts_then m) (more h c)
 
 teeth_form : (n at : ℕ) (h : Head) (m t : ℕ) (s : List ℕ) (ts : List (List ℕ)) → form_after (teeth_on (form_only n) at h m t s ts) ≡ Some (teeth_then m (length h.cuts) t)
-teeth_form n at h m zero s ts = ap Some (cuts_more h (comb_cut s ts) m)
+teeth_form n at h m zero s ts = ap Some (cuts_more n h (comb_cut s ts) m)
 teeth_form n at h m (suc t) s ts = refl
 
 -- whether a leaf has lines left
@@ -231,7 +231,7 @@ step_form n at (wants_count l) title_line = refl
 step_form n at (wants_count l) (size_line z1) = refl
 step_form n at (wants_count l) (length_line z1) = refl
 step_form n at (wants_count l) (tour_line z1) = refl
-step_form n at (wants_count l) (cuts_line k) = sym (ap Some (cuts_form (record { long = l; cuts = [] }) k))
+step_form n at (wants_count l) (cuts_line k) = sym (ap Some (cuts_form n (record { long = l; cuts = [] }) k))
 step_form n at (wants_count l) (subtour_line z1) = refl
 step_form n at (wants_count l) (comb_line z1) = refl
 step_form n at (wants_count l) (handle_line z1) = refl
@@ -248,7 +248,7 @@ step_form n at (wants_cut h m) (size_line z1) = refl
 step_form n at (wants_cut h m) (length_line z1) = refl
 step_form n at (wants_cut h m) (tour_line z1) = refl
 step_form n at (wants_cut h m) (cuts_line z1) = refl
-step_form n at (wants_cut h m) (subtour_line q) = sym (ap Some (cuts_more h (subtour_cut q) m))
+step_form n at (wants_cut h m) (subtour_line q) = sym (ap Some (cuts_more n h (subtour_cut q) m))
 step_form n at (wants_cut h m) (comb_line z1) = refl
 step_form n at (wants_cut h m) (handle_line z1) = refl
 step_form n at (wants_cut h m) (tooth_line z1) = refl

@@ -113,15 +113,15 @@ on_tour_back j l m at (cut_line y z) xs k = absurd k
 on_tour_back j l m at (condition_line y z) xs k = absurd k
 on_tour_back j l m at open_line xs k = absurd k
 
-pub on_count_forth : (j : Tests) (l m at : ℕ) (x : Item) (xs : List Item) → m ≡ l → CountLeft j m (x ∷ xs) → LeftOf j l (on_count m at x) xs
+pub on_count_forth : (j : Tests) (l m at : ℕ) (x : Item) (xs : List Item) → m ≡ l → CountLeft j m (x ∷ xs) → LeftOf j l (on_count j m at x) xs
 on_count_forth j l m at x xs e k =
     let said = k.said in
     let head : cuts_line k.cuts ≡ x = cc in
     let tail : k.rest ≡ xs = cc in
     let h : Head = record { long = m; cuts = [] } in
-    subst (λ y. LeftOf j l (on_count m at y) xs) head (cuts_forth j l h k.cuts xs e (subst (λ r. CutsLeft j h k.cuts r) tail k.left))
+    subst (λ y. LeftOf j l (on_count j m at y) xs) head (cuts_forth j l h k.cuts xs e (subst (λ r. CutsLeft j h k.cuts r) tail k.left))
 
-pub on_count_back : (j : Tests) (l m at : ℕ) (x : Item) (xs : List Item) → LeftOf j l (on_count m at x) xs → (m ≡ l) × CountLeft j m (x ∷ xs)
+pub on_count_back : (j : Tests) (l m at : ℕ) (x : Item) (xs : List Item) → LeftOf j l (on_count j m at x) xs → (m ≡ l) × CountLeft j m (x ∷ xs)
 on_count_back j l m at (cuts_line z) xs k =
     let p = cuts_back j l (record { long = m; cuts = [] }) z xs k in
     (p.0, record { cuts = z; rest = xs; said = refl; left = p.1 })

@@ -54,7 +54,7 @@ pub record CutsLeft (j : Tests) (h : Head) (m : ℕ) (xs : List Item) : Type 0 w
   pub said : xs ≡ flat_map listed_items more ++ rest
   pub count : length more ≡ m
   pub cuts : AllByRecursion (λ c. j.cut c ≡ true) more
-  pub trees : Trees j (with_cuts h more) ([] ∷ []) rest
+  pub trees : Trees j (with_cuts h more) (j.root ∷ []) rest
 
 -- the teeth of a comb, and then m cuts
 pub record TeethLeft (j : Tests) (h : Head) (m t : ℕ) (s : List ℕ) (ts : List (List ℕ)) (xs : List Item) : Type 0 where

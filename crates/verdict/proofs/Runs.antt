@@ -49,7 +49,7 @@ pub record IsGood (j : Tests) (l : ℕ) (p : Proof) : Type 0 where
   pub is_tour : j.tour p.tour ≡ true
   pub long : j.has_length p.tour l ≡ true
   pub cuts : AllByRecursion (λ c. j.cut c ≡ true) p.cuts
-  pub tree : Good j (record { long = l; cuts = p.cuts }) [] p.tree
+  pub tree : Good j (record { long = l; cuts = p.cuts }) j.root p.tree
 
 -- the lines of such a value
 abbrev pub AreGood : Tests → List (List ℕ) → ℕ → Type 0

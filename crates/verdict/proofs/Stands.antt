@@ -36,12 +36,12 @@ either_stands : (b : Bool) (o q : Outcome) (m : ℕ) → StandsAfter o m → Sta
 either_stands true o q m a c = a
 either_stands false o q m a c = c
 
-cuts_stand : (h : Head) (c m : ℕ) → 1 ≤ m → StandsAt (cuts_on h c) m
-cuts_stand h zero m e = e
-cuts_stand h (suc c) m e = e
+cuts_stand : (j : Tests) (h : Head) (c m : ℕ) → 1 ≤ m → StandsAt (cuts_on j h c) m
+cuts_stand j h zero m e = e
+cuts_stand j h (suc c) m e = e
 
 cut_stands : (j : Tests) (from : ℕ) (h : Head) (c : ℕ) (x : Listed) (m : ℕ) → 1 ≤ m → StandsAfter (cut_end j from h c x) m
-cut_stands j from h c x m e = either_stands (j.cut x) (go (cuts_on (record { long = h.long; cuts = h.cuts ++ x ∷ [] }) c)) (refused 5 from) m (cuts_stand (record { long = h.long; cuts = h.cuts ++ x ∷ [] }) c m e) tt
+cut_stands j from h c x m e = either_stands (j.cut x) (go (cuts_on j (record { long = h.long; cuts = h.cuts ++ x ∷ [] }) c)) (refused 5 from) m (cuts_stand j (record { long = h.long; cuts = h.cuts ++ x ∷ [] }) c m e) tt
 
 teeth_stand : (j : Tests) (from : ℕ) (h : Head) (c t : ℕ) (s : List ℕ) (ts : List (List ℕ)) (m : ℕ) → m ≡ from + 2 + length ts → 1 ≤ from → StandsAfter (teeth_on j from h c t s ts) m
 teeth_stand j from h c zero s ts m e f = cut_stands j from h c (comb_cut s ts) m (omega arith)
@@ -71,9 +71,9 @@ tour_stands j l m (tour_line cs) e =
     (either_stands (j.has_length cs l) (go (wants_count l)) (refused 4 m) (m + 1) (omega arith) tt) tt
 tour_stands j l m x e = tt
 
-count_stands : (l m : ℕ) (x : Item) → m ≡ 5 → StandsAfter (on_count l m x) (m + 1)
-count_stands l m (cuts_line c) e = cuts_stand (record { long = l; cuts = [] }) c (m + 1) (omega arith)
-count_stands l m x e = tt
+count_stands : (j : Tests) (l m : ℕ) (x : Item) → m ≡ 5 → StandsAfter (on_count j l m x) (m + 1)
+count_stands j l m (cuts_line c) e = cuts_stand j (record { long = l; cuts = [] }) c (m + 1) (omega arith)
+count_stands j l m x e = tt
 
 cut_line_stands : (j : Tests) (h : Head) (c m : ℕ) (x : Item) → 1 ≤ m → StandsAfter (on_cut j h c m x) (m + 1)
 cut_line_stands j h c m (subtour_line s) e = cut_stands j m h c (subtour_cut s) (m + 1) (omega arith)
@@ -114,7 +114,7 @@ step_stands j wants_title m (Some x) e = title_stands m x e
 step_stands j wants_size m (Some x) e = size_stands j m x e
 step_stands j wants_length m (Some x) e = length_stands m x e
 step_stands j (wants_tour l) m (Some x) e = tour_stands j l m x e
-step_stands j (wants_count l) m (Some x) e = count_stands l m x e
+step_stands j (wants_count l) m (Some x) e = count_stands j l m x e
 step_stands j (wants_cut h c) m (Some x) e = cut_line_stands j h c m x e
 step_stands j (wants_handle h c from t) m (Some x) e = handle_stands j h c from t m x e.0 e.1
 step_stands j (wants_tooth h c from t s ts) m (Some x) e = tooth_stands j h c from t s ts m x e.0 e.1

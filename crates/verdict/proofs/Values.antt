@@ -5,7 +5,7 @@ use Rattle.std.specs.List.{AllByRecursion}
 use Rattle.std.proofs.lemmas.Bool.{and_parts, and_from, eq-eqb, eqb-true, leb-true, ltb-true}
 use Rattle.tspdef.specs.Instances.{Instance, length_in}
 use Rattle.tspdef.specs.Cuts.{Cut, subtour, IsCut}
-use Rattle.tspdef.specs.Paths.{Condition, absent, present, two, four, condition_at}
+use Rattle.tspdef.specs.Paths.{Condition, absent, present, two, four, condition_at, root}
 use Rattle.tspdef.specs.Closings.{IsDualSize, NamesCliques, IsClosing}
 use Rattle.tspdef.specs.Bounds.{bound, needed}
 use Rattle.tspdef.specs.Trees.{IsSound, open_leaves}
@@ -16,7 +16,9 @@ use Rattle.certdef.specs.Accepted.{from_zero, cut_of, cuts_of, dual_of, duals_fr
 use Rattle.certdef.specs.Tests.{is_cut, verifier}
 use Rattle.verdict.specs.Forms.{form_only}
 use Rattle.certdef.specs.Verdicts.{Head, yes, verdict_by}
+use Rattle.certdef.proofs.Depths.{depths_behind, depths_without}
 use Rattle.verdict.proofs.Left.{all_named, Good}
+use Rattle.verdict.proofs.CutSteps.{append_nil}
 use Rattle.verdict.proofs.Runs.{AreOfForm, AreGood, yes_is_good}
 use Rattle.verdict.proofs.Decisions.{tour_from_one_yes, yes_tour_from_one, proper_yes, yes_proper, cut_yes, yes_cut, clique_yes, below_z, z_below}
 
@@ -205,6 +207,13 @@ yes_cuts : (n : ℕ) (cs : List Listed) → AllByRecursion (IsCut n) (cuts_of n 
 yes_cuts n [] h = tt
 yes_cuts n (c ∷ cs) h = (yes_cut n (cut_of n c) h.0, yes_cuts n cs h.1)
 
+-- the form's depths, from the root of an instance
+pub depths_at_root : (i : Instance) (t : Written) → DepthsName [] t → DepthsName (root i) t
+depths_at_root i t h = subst (λ r. DepthsName r t) (append_nil (root i)) (depths_behind i.fixed [] t h)
+
+depths_from_root : (i : Instance) (t : Written) → DepthsName (root i) t → DepthsName [] t
+depths_from_root i t h = depths_without i.fixed [] t (subst (λ r. DepthsName r t) (sym (append_nil (root i))) h)
+
 -- ---- by a verifier's tests
 
 -- the lines are those of a value of the grammar that is accepted with length l
@@ -220,13 +229,13 @@ accepted : (i : Instance) (l : ℕ) (ls : List (List ℕ)) → AreGood (verifier
 accepted i l ls (p, e, f, g) =
     let P : Item → Type 0 = λ x. fits i.n x ≡ true in
     let cs = from_zero p.tour in
-    let tour = tour_from_one_yes i.n p.tour g.is_tour in
+    let tour = tour_from_one_yes i p.tour g.is_tour in
     let cuts = cuts_yes i.n p.cuts g.cuts in
-    let tree = tree_yes i (record { long = l; cuts = p.cuts }) [] p.tree cuts (all_last P (flat_map listed_items p.cuts) (tree_items p.tree) f.1.1.1.1.1) g.tree in (
+    let tree = tree_yes i (record { long = l; cuts = p.cuts }) (root i) p.tree cuts (all_last P (flat_map listed_items p.cuts) (tree_items p.tree) f.1.1.1.1.1) g.tree in (
       p,
       record {
         lines = e;
-        form = record { readable = record { lines = f; rise = tree.rise }; depths = tree.depths };
+        form = record { readable = record { lines = f; rise = tree.rise }; depths = depths_from_root i p.tree tree.depths };
         accepted = record {
           about = record { size = eqb-true p.cities i.n g.size; same = g.same_length; cuts = cuts; from_one = tour.from_one };
           accepted = record {
@@ -252,10 +261,10 @@ is_good i l ls (p, k) =
       record {
         size = eq-eqb p.cities i.n about.size;
         same_length = about.same;
-        is_tour = yes_tour_from_one i.n p.tour about.from_one a.is_tour a.canonical;
+        is_tour = yes_tour_from_one i p.tour about.from_one a.is_tour a.canonical;
         long = eq-eqb (length_in i cs) l (sym a.long);
         cuts = yes_cuts i.n p.cuts about.cuts;
-        tree = yes_tree i (record { long = l; cuts = p.cuts }) [] p.tree f.readable.rise f.depths a.sound a.none_open;
+        tree = yes_tree i (record { long = l; cuts = p.cuts }) (root i) p.tree f.readable.rise (depths_at_root i p.tree f.depths) a.sound a.none_open;
       },
     )
 

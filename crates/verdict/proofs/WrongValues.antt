@@ -5,7 +5,7 @@ use Rattle.std.specs.List.{AllByRecursion}
 use Rattle.std.proofs.lemmas.Bool.{and_parts, and_from, eq-eqb, eqb-true}
 use Rattle.tspdef.specs.Instances.{Instance, length_in}
 use Rattle.tspdef.specs.Cuts.{IsCut}
-use Rattle.tspdef.specs.Paths.{Condition, absent, present, two, four, condition_at, is_decided}
+use Rattle.tspdef.specs.Paths.{Condition, absent, present, two, four, condition_at, is_decided, root}
 use Rattle.tspdef.specs.Bounds.{bound, needed}
 use Rattle.certdef.specs.Items.{Item, size_line, tour_line, subtour_line, handle_line, tooth_line, edge_line, clique_line, leaf_line, city_line, cut_line, condition_line, open_line, item_of, longest}
 use Rattle.certdef.specs.Proofs.{Listed, subtour_cut, comb_cut, Written, open_leaf, closed_leaf, edge_split, clique_split, Proof, lines, text}
@@ -18,6 +18,7 @@ use Rattle.verdict.proofs.Left.{all_named, Good}
 use Rattle.verdict.proofs.Runs.{AreGood, yes_is_good}
 use Rattle.verdict.proofs.Decisions.{yes_tour_from_one, yes_proper, yes_cut, z_below}
 use Rattle.verdict.proofs.Bytes.{lines_bytes}
+use Rattle.verdict.proofs.Values.{depths_at_root}
 
 -- ---- one test of many
 
@@ -55,7 +56,8 @@ abbrev tests_for : Instance → ℕ → Tests
 tests_for i k = record {
   n = i.n;
   size = λ m. part k 2 (m == i.n);
-  tour = λ cs. part k 3 (is_tour_from_one i.n cs);
+  root = root i;
+  tour = λ cs. part k 3 (is_tour_from_one i cs);
   has_length = λ cs l. part k 4 (length_in i (from_zero cs) == l);
   cut = λ c. part k 5 (is_cut i.n (cut_of i.n c));
   decided = λ path u v. cond (k == 6) (is_decided path u v) false;
@@ -106,7 +108,7 @@ opens_kept k m p (refused r at) kept e =
     ap (λ t. cond (cond t false true) p (refused 8 m)) (eq-eqb k 8 (kept ∙ sym same)) ∙ e
 
 cut_same : (i : Instance) (k from : ℕ) (h : Head) (c : ℕ) (x : Listed) (o : Outcome) → Kept k o → cut_end (verifier i) from h c x ≡ o → cut_end (tests_for i k) from h c x ≡ o
-cut_same i k from h c x o kept e = by_part k 5 from (is_cut i.n (cut_of i.n x)) (go (cuts_on (with_cut h x) c)) (go (cuts_on (with_cut h x) c)) o (λ f. f) kept e
+cut_same i k from h c x o kept e = by_part k 5 from (is_cut i.n (cut_of i.n x)) (go (cuts_on (verifier i) (with_cut h x) c)) (go (cuts_on (tests_for i k) (with_cut h x) c)) o (λ f. f) kept e
 
 teeth_same : (i : Instance) (k from : ℕ) (h : Head) (c t : ℕ) (s : List ℕ) (ts : List (List ℕ)) (o : Outcome) → Kept k o → teeth_on (verifier i) from h c t s ts ≡ o → teeth_on (tests_for i k) from h c t s ts ≡ o
 teeth_same i k from h c zero s ts o kept e = cut_same i k from h c (comb_cut s ts) o kept e
@@ -124,7 +126,7 @@ size_same i k m x o kept e = e
 
 tour_same : (i : Instance) (k l m : ℕ) (x : Item) (o : Outcome) → Kept k o → on_tour (verifier i) l m x ≡ o → on_tour (tests_for i k) l m x ≡ o
 tour_same i k l m (tour_line cs) o kept e =
-    by_part k 3 m (is_tour_from_one i.n cs) (cond (length_in i (from_zero cs) == l) (go (wants_count l)) (refused 4 m)) (cond (part k 4 (length_in i (from_zero cs) == l)) (go (wants_count l)) (refused 4 m)) o
+    by_part k 3 m (is_tour_from_one i cs) (cond (length_in i (from_zero cs) == l) (go (wants_count l)) (refused 4 m)) (cond (part k 4 (length_in i (from_zero cs) == l)) (go (wants_count l)) (refused 4 m)) o
     (λ f. by_part k 4 m (length_in i (from_zero cs) == l) (go (wants_count l)) (go (wants_count l)) o (λ g. g) kept f) kept e
 tour_same i k l m x o kept e = e
 
@@ -255,10 +257,10 @@ are_good i k p f g = (
   record {
     size = true_part k 2 (p.cities == i.n) (λ e. eq-eqb p.cities i.n (g.size e));
     same_length = refl;
-    is_tour = true_part k 3 (is_tour_from_one i.n p.tour) (λ e. let t = g.tour e in yes_tour_from_one i.n p.tour t.from_one t.is_tour t.canonical);
+    is_tour = true_part k 3 (is_tour_from_one i p.tour) (λ e. let t = g.tour e in yes_tour_from_one i p.tour t.from_one t.is_tour t.canonical);
     long = true_part k 4 (length_in i (from_zero p.tour) == p.long) (λ e. eq-eqb (length_in i (from_zero p.tour)) p.long (g.long e));
     cuts = good_cuts i k p.cuts g.cuts;
-    tree = good_tree i k (record { long = p.long; cuts = p.cuts }) [] p.tree f.readable.rise f.depths g.tree;
+    tree = good_tree i k (record { long = p.long; cuts = p.cuts }) (root i) p.tree f.readable.rise (depths_at_root i p.tree f.depths) g.tree;
   },
 )
 

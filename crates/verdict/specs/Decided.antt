@@ -3,28 +3,35 @@ use Rattle.std.specs.Prelude.{◌≡◌, ℕ, ◌≤◌, ◌↔◌, true, List, 
 use Rattle.std.specs.List.{AllByRecursion}
 use Rattle.tspdef.specs.Sets.{IsProper}
 use Rattle.tspdef.specs.Tours.{IsTour, IsCanonical}
-use Rattle.tspdef.specs.Instances.{Instance}
+use Rattle.tspdef.specs.Fixed.{AreSteps}
+use Rattle.tspdef.specs.Instances.{Instance, IsTourOf}
 use Rattle.tspdef.specs.Cuts.{Cut, IsCut}
 use Rattle.tspdef.specs.Paths.{Condition, IsClique}
 use Rattle.tspdef.specs.Bounds.{bound, needed}
 use Rattle.certdef.specs.Proofs.{Listed, Duals}
 use Rattle.certdef.specs.Accepted.{from_zero, cuts_of, closing_of, is_clique}
-use Rattle.certdef.specs.Tests.{is_tour, is_canonical, is_tour_from_one, is_proper, is_cut, closes_leaf}
+use Rattle.certdef.specs.Tests.{is_tour, are_steps, is_tour_of, is_canonical, is_tour_from_one, is_proper, is_cut, closes_leaf}
 
--- A canonical tour of n cities, of cities from 1.
-pub record IsTourFromOne (n : ℕ) (cs : List ℕ) : Type 0 where
+-- A canonical tour of the instance, with its fixed pairs, of cities from 1.
+pub record IsTourFromOne (i : Instance) (cs : List ℕ) : Type 0 where
   pub from_one : AllByRecursion (λ c. 1 ≤ c) cs
-  pub is_tour : IsTour n (from_zero cs)
+  pub is_tour : IsTourOf i (from_zero cs)
   pub canonical : IsCanonical (from_zero cs)
 
 abbrev pub ToursAreDecided : Type 0
 ToursAreDecided = (n : ℕ) (cs : List ℕ) → (is_tour n cs ≡ true) ↔ IsTour n cs
 
+abbrev pub StepsAreDecided : Type 0
+StepsAreDecided = (es pairs : List (ℕ × ℕ)) → (are_steps es pairs ≡ true) ↔ AreSteps es pairs
+
+abbrev pub ToursOfInstancesAreDecided : Type 0
+ToursOfInstancesAreDecided = (i : Instance) (cs : List ℕ) → (is_tour_of i cs ≡ true) ↔ IsTourOf i cs
+
 abbrev pub CanonicalIsDecided : Type 0
 CanonicalIsDecided = (cs : List ℕ) → (is_canonical cs ≡ true) ↔ IsCanonical cs
 
 abbrev pub ToursFromOneAreDecided : Type 0
-ToursFromOneAreDecided = (n : ℕ) (cs : List ℕ) → (is_tour_from_one n cs ≡ true) ↔ IsTourFromOne n cs
+ToursFromOneAreDecided = (i : Instance) (cs : List ℕ) → (is_tour_from_one i cs ≡ true) ↔ IsTourFromOne i cs
 
 abbrev pub ProperIsDecided : Type 0
 ProperIsDecided = (n : ℕ) (s : List ℕ) → (is_proper n s ≡ true) ↔ IsProper n s

@@ -66,16 +66,16 @@ pub record OtherSize (i : Instance) (s : Stage) (m : ℕ) (x : Option Item) (k a
   pub says : x ≡ Some (size_line cities)
   pub other : cities ≢ i.n
 
--- 3: line 4 lists no canonical tour of the cities from 1
+-- 3: line 4 lists no canonical tour of the instance: not of its cities, which count from 1, not canonical, or without a fixed pair
 pub record NotATour (i : Instance) (s : Stage) (m : ℕ) (x : Option Item) (k at : ℕ) : Type 0 where
   pub refusal : k ≡ 3
   pub line : at ≡ m
   pub fourth : m ≡ 4
   pub cities : List ℕ
   pub says : x ≡ Some (tour_line cities)
-  pub none : ¬ IsTourFromOne i.n cities
+  pub none : ¬ IsTourFromOne i cities
 
--- 4: line 4 lists a canonical tour, and it is not as long as line 3 says
+-- 4: line 4 lists a canonical tour of the instance, and it is not as long as line 3 says
 pub record WrongLength (i : Instance) (s : Stage) (m : ℕ) (x : Option Item) (k at : ℕ) : Type 0 where
   pub refusal : k ≡ 4
   pub line : at ≡ m
@@ -84,7 +84,7 @@ pub record WrongLength (i : Instance) (s : Stage) (m : ℕ) (x : Option Item) (k
   pub said : s ≡ wants_tour long
   pub cities : List ℕ
   pub says : x ≡ Some (tour_line cities)
-  pub tour : IsTourFromOne i.n cities
+  pub tour : IsTourFromOne i cities
   pub other : length_in i (from_zero cities) ≢ long
 
 -- 5: the set of an S or a K line is that of all cities
@@ -111,7 +111,7 @@ pub record NotAComb (i : Instance) (s : Stage) (m : ℕ) (x : Option Item) (k at
   pub last : m ≡ at + 1 + length teeth
   pub none : ¬ IsComb i.n (from_zero handle) (map from_zero teeth)
 
--- 6: the pair of an E line is decided by the path that stands there
+-- 6: the pair of an E line is decided by the path that stands there; with the instance's fixed pairs each path begins
 pub record DecidedEdge (s : Stage) (m : ℕ) (x : Option Item) (k at : ℕ) : Type 0 where
   pub refusal : k ≡ 6
   pub line : at ≡ m

@@ -128,6 +128,7 @@ abbrev pub form_only : ℕ → Tests
 form_only n = record {
   n = n;
   size = λ m. true;
+  root = [];
   tour = λ cs. true;
   has_length = λ cs l. true;
   cut = λ c. true;

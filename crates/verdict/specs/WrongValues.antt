@@ -4,7 +4,7 @@ use Rattle.std.specs.List.{AllByRecursion}
 use Rattle.tspdef.specs.Sets.{IsProper}
 use Rattle.tspdef.specs.Instances.{Instance, length_in}
 use Rattle.tspdef.specs.Cuts.{IsCut}
-use Rattle.tspdef.specs.Paths.{Condition, absent, present, two, four, is_decided}
+use Rattle.tspdef.specs.Paths.{Condition, absent, present, two, four, is_decided, root}
 use Rattle.tspdef.specs.Bounds.{bound, needed}
 use Rattle.certdef.specs.Proofs.{Listed, Written, open_leaf, closed_leaf, edge_split, clique_split, Proof, text}
 use Rattle.certdef.specs.Accepted.{from_zero, cuts_of, closing_of, HasForm, most_bytes}
@@ -13,8 +13,8 @@ use Rattle.certdef.specs.Bytes.{verdict}
 use Rattle.verdict.specs.Decided.{IsTourFromOne}
 use Rattle.verdict.specs.Refusals.{first_lines, IsTold}
 
--- The tree has nothing that refusal k is told for: 5 a split by a set of all cities, 6 a split by a decided pair, 7 a leaf whose
--- bound is too weak for the length, 8 an open leaf.
+-- The tree has nothing that refusal k is told for: 5 a split by a set of all cities, 6 a split by a decided pair, a fixed one among
+-- them, 7 a leaf whose bound is too weak for the length, 8 an open leaf.
 abbrev pub IsRightTree : Instance → (k long : ℕ) → List Listed → List Condition → Written → Type 0
 IsRightTree i k l cs path open_leaf = k ≢ 8
 IsRightTree i k l cs path (closed_leaf d) = k ≡ 7 → needed l <ℤ bound i path (closing_of i.n (cuts_of i.n cs) d)
@@ -25,14 +25,14 @@ IsRightTree i k l cs path (clique_split s a b) =
     (k ≡ 5 → IsProper i.n (from_zero s))
     × (IsRightTree i k l cs (path ++ two (from_zero s) ∷ []) a × IsRightTree i k l cs (path ++ four (from_zero s) ∷ []) b)
 
--- The value has nothing that refusal k is told for: 2 another number of cities, 3 no canonical tour of them, 4 another length
+-- The value has nothing that refusal k is told for: 2 another number of cities, 3 no canonical tour of the instance, 4 another length
 -- than the tour's, 5 a cut that is none; or a fault of the tree. Nothing of a value is refused as 1, 9 or 10.
 pub record IsRight (i : Instance) (k : ℕ) (p : Proof) : Type 0 where
   pub size : k ≡ 2 → p.cities ≡ i.n
-  pub tour : k ≡ 3 → IsTourFromOne i.n p.tour
+  pub tour : k ≡ 3 → IsTourFromOne i p.tour
   pub long : k ≡ 4 → length_in i (from_zero p.tour) ≡ p.long
   pub cuts : k ≡ 5 → AllByRecursion (IsCut i.n) (cuts_of i.n p.cuts)
-  pub tree : IsRightTree i k p.long p.cuts [] p.tree
+  pub tree : IsRightTree i k p.long p.cuts (root i) p.tree
 
 -- Where the text of a value of the grammar, of at most 2^60 bytes, is refused, the value has what the refusal is told for.
 abbrev pub RefusedValuesAreWrong : Type 0

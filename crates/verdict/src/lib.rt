@@ -7,7 +7,7 @@ ghost use Rattle.verdict.specs.Laws.{LinesAreExact, YesIsAcceptedText, ReadsInPi
 ghost use Rattle.verdict.specs.Spellings.{SpellingsAreApart, NoTextBeginsAnother, BytesHaveOneValue};
 ghost use Rattle.verdict.specs.Refusals.{RefusalsAreOfTheFront, TrailingIsBehindAccepted};
 ghost use Rattle.verdict.specs.WrongValues.{RefusedValuesAreWrong, RefusedLinesAreWrong};
-ghost use Rattle.verdict.specs.Decided.{ToursAreDecided, CanonicalIsDecided, ToursFromOneAreDecided, ProperIsDecided, CutsAreDecided, CliquesAreDecided, ClosedLeavesAreDecided};
+ghost use Rattle.verdict.specs.Decided.{ToursAreDecided, StepsAreDecided, ToursOfInstancesAreDecided, CanonicalIsDecided, ToursFromOneAreDecided, ProperIsDecided, CutsAreDecided, CliquesAreDecided, ClosedLeavesAreDecided};
 
 /// Bytes are the line of an item within its bounds exactly where they are read as that item.
 pub fn lines_are_exact()
@@ -32,6 +32,8 @@ pub fn read_is_readable()
 /// Each test of the machine is true exactly where the definition that it repeats holds.
 pub fn tests_decide()
     ensures tours { ToursAreDecided }
+    ensures steps { StepsAreDecided }
+    ensures tours_of_instances { ToursOfInstancesAreDecided }
     ensures canonical { CanonicalIsDecided }
     ensures tours_from_one { ToursFromOneAreDecided }
     ensures proper { ProperIsDecided }

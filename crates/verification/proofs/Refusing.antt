@@ -24,7 +24,7 @@ too_long (refusals.BadNode k) e = absurd (omega arith)
 too_long (refusals.Asymmetric k i j) e = absurd (omega arith)
 too_long refusals.Truncated e = absurd (omega arith)
 too_long (refusals.Missing part) e = absurd (omega arith)
-too_long (refusals.FixedEdges k) e = absurd (omega arith)
+too_long (refusals.FixedEdges k f) e = absurd (omega arith)
 
 -- the text of the numbers of a refusal
 abbrev text_of : ℕ → ℕ → List ℕ → List ℕ

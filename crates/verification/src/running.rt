@@ -18,8 +18,9 @@ use tspwords::{VerifyWords, WordsError, read_verify_words};
 /// Does what the words of the verifier's command line say, of which the first is the program's name, and says how it ended.
 ///
 /// `INSTANCE PROOF` reads the instance to its end and then the proof, whoever wrote it, and prints `VERIFIED` and the length of a
-/// shortest tour where the proof is accepted, and else `REFUSED` and its first refusal with the line of it. A bad instance is
-/// told by `INSTANCE` and its first refusal, and no proof is opened then. Each file is opened once, and none is written.
+/// shortest tour where the proof is accepted, and else `REFUSED` and its first refusal with the line of it. Where the instance
+/// fixes edges, its tours are those with each of them. A bad instance is told by `INSTANCE` and its first refusal, and no proof is
+/// opened then. Each file is opened once, and none is written.
 ///
 /// Where the desk does not tell what it holds, the clauses speak of the words and of the counts of faults alone.
 pub fn run_verify<R, D: Desk>(

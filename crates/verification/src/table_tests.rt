@@ -7,7 +7,12 @@ use std::test::Fail;
 
 /// What the verifier prints for the square and a proof.
 fn printed(alloc: Global, proof: &str) -> Result<String, AllocError> {
-    let ended = verified(alloc, SQUARE, proof)?;
+    printed_for(alloc, SQUARE, proof)
+}
+
+/// What it prints for an instance and a proof.
+fn printed_for(alloc: Global, instance: &str, proof: &str) -> Result<String, AllocError> {
+    let ended = verified(alloc, instance, proof)?;
     let mut text = format!(in alloc; "")?;
     for byte in ended.desk.text() {
         text.push(char::from(*byte))?;
@@ -290,5 +295,41 @@ fn a_tour_line_of_the_greatest_length(rt: HostRuntime) -> Result<(), Fail> {
     assert_eq!(rt; fits.desk.text(), b"REFUSED 3 4\n".as_slice());
     let past = verified(alloc, &instance, &longer)?;
     assert_eq!(rt; past.desk.text(), b"REFUSED 1 4\n".as_slice());
+    Ok(())
+}
+
+/// The square in which the edge from city 1 to city 3, a diagonal, is fixed.
+const DIAGONAL: &str =
+    "NAME : square\nTYPE : TSP\nDIMENSION : 4\nEDGE_WEIGHT_TYPE : EUC_2D\nNODE_COORD_SECTION\n1 0 0\n2 0 10\n3 10 10\n4 10 0\nFIXED_EDGES_SECTION\n1 3\n-1\nEOF\n";
+
+/// The first five lines of proofs for it, of a tour with that edge.
+const DIAGONAL_HEAD: &str = "TSPCERT 1\nN 4\nLENGTH 48\nTOUR 1 2 4 3\nCUTS 0\n";
+
+/// The duals count the fixed edge as used, a tour has it, no split is by it, and depths do not count it.
+#[test]
+fn a_fixed_edge(rt: HostRuntime) -> Result<(), Fail> {
+    let alloc = rt.alloc();
+    let duals = "L 4 0 0\nP 1 3145728\nP 2 7340032\nP 3 3145728\nP 4 7340032\n";
+    assert_eq!(rt;
+        printed_for(alloc, DIAGONAL, PROOF)?.as_str(),
+        "REFUSED 3 4\n"
+    );
+    for (tree, want) in [
+        (duals, "VERIFIED 48"),
+        ("E 1 3\n", "REFUSED 6 6"),
+        ("E 1 2\nE 1 3\n", "REFUSED 6 7"),
+        ("K 2 1 2\nL 0 0 1\nZ 1 1\n", "REFUSED 7 7"),
+        ("K 2 1 2\nL 0 0 1\nZ 2 1\n", "REFUSED 1 8"),
+    ] {
+        let proof = format!(in alloc; "{DIAGONAL_HEAD}{tree}")?;
+        let want = format!(in alloc; "{want}\n")?;
+        assert_eq!(rt;
+            printed_for(alloc, DIAGONAL, &proof)?.as_str(),
+            want.as_str(),
+            "{tree}"
+        );
+    }
+    let proof = format!(in alloc; "{DIAGONAL_HEAD}{duals}")?;
+    assert_eq!(rt; printed(alloc, &proof)?.as_str(), "REFUSED 7 6\n");
     Ok(())
 }

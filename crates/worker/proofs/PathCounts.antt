@@ -3,7 +3,7 @@ use Rattle.std.proofs.Common.{◌≡◌, ℕ, zero, suc, ◌+◌, ◌-◌, ◌*�
 use Rattle.std.proofs.lemmas.Bool.{cases_eq, eq-eqb}
 use Rattle.std.proofs.Math.Nat.{mul-le-mul}
 use Rattle.tspdef.specs.Tours.{joins}
-use Rattle.tspdef.specs.Paths.{Condition, absent, present, two, four, is_absent, is_present, is_decided, ContinuesPath, IsPath}
+use Rattle.tspdef.specs.Paths.{Condition, fixed, absent, present, two, four, is_absent, is_present, is_decided, ContinuesPath, IsPath}
 use Rattle.worker.specs.Works.{cliques, PathsAreShort}
 
 -- how many pairs of v and a lower city are not decided
@@ -82,12 +82,17 @@ absent_stays (absent a b ∷ path) c u v e = elim (or_either (joins u v (a, b)) 
   | inl p ↦ rw p refl
   | inr q ↦ rw (absent_stays path c u v q) (or_true (joins u v (a, b)))
 ]
+absent_stays (fixed a b ∷ path) c u v e = absent_stays path c u v e
 absent_stays (present a b ∷ path) c u v e = absent_stays path c u v e
 absent_stays (two s ∷ path) c u v e = absent_stays path c u v e
 absent_stays (four s ∷ path) c u v e = absent_stays path c u v e
 
 present_stays : (path : List Condition) (c : Condition) (u v : ℕ) → is_present path u v ≡ true → is_present (path ++ c ∷ []) u v ≡ true
 present_stays [] c u v e = absurd cc
+present_stays (fixed a b ∷ path) c u v e = elim (or_either (joins u v (a, b)) (is_present path u v) e) [
+  | inl p ↦ rw p refl
+  | inr q ↦ rw (present_stays path c u v q) (or_true (joins u v (a, b)))
+]
 present_stays (absent a b ∷ path) c u v e = present_stays path c u v e
 present_stays (present a b ∷ path) c u v e = elim (or_either (joins u v (a, b)) (is_present path u v) e) [
   | inl p ↦ rw p refl
@@ -111,12 +116,14 @@ joins_itself u v = rw (eqb-same u) (rw (eqb-same v) refl)
 absent_last : (path : List Condition) (u v : ℕ) → is_absent (path ++ absent u v ∷ []) u v ≡ true
 absent_last [] u v = rw (joins_itself u v) refl
 absent_last (absent a b ∷ path) u v = rw (absent_last path u v) (or_true (joins u v (a, b)))
+absent_last (fixed a b ∷ path) u v = absent_last path u v
 absent_last (present a b ∷ path) u v = absent_last path u v
 absent_last (two s ∷ path) u v = absent_last path u v
 absent_last (four s ∷ path) u v = absent_last path u v
 
 present_last : (path : List Condition) (u v : ℕ) → is_present (path ++ present u v ∷ []) u v ≡ true
 present_last [] u v = rw (joins_itself u v) refl
+present_last (fixed a b ∷ path) u v = rw (present_last path u v) (or_true (joins u v (a, b)))
 present_last (absent a b ∷ path) u v = present_last path u v
 present_last (present a b ∷ path) u v = rw (present_last path u v) (or_true (joins u v (a, b)))
 present_last (two s ∷ path) u v = present_last path u v
@@ -128,11 +135,26 @@ decided_absent path u v = rw (absent_last path u v) refl
 pub decided_present : (path : List Condition) (u v : ℕ) → is_decided (path ++ present u v ∷ []) u v ≡ true
 decided_present path u v = rw (present_last path u v) (or_true (is_absent (path ++ present u v ∷ []) u v))
 
+fixed_last : (path : List Condition) (u v : ℕ) → is_present (path ++ fixed u v ∷ []) u v ≡ true
+fixed_last [] u v = rw (joins_itself u v) refl
+fixed_last (fixed a b ∷ path) u v = rw (fixed_last path u v) (or_true (joins u v (a, b)))
+fixed_last (absent a b ∷ path) u v = fixed_last path u v
+fixed_last (present a b ∷ path) u v = rw (fixed_last path u v) (or_true (joins u v (a, b)))
+fixed_last (two s ∷ path) u v = fixed_last path u v
+fixed_last (four s ∷ path) u v = fixed_last path u v
+
+decided_fixed : (path : List Condition) (u v : ℕ) → is_decided (path ++ fixed u v ∷ []) u v ≡ true
+decided_fixed path u v = rw (fixed_last path u v) (or_true (is_absent (path ++ fixed u v ∷ []) u v))
+
 -- ---- the law
 
 -- what may still come on a path
 rest_is_short : (n : ℕ) (done rest : List Condition) → ContinuesPath n done rest → length rest ≤ cliques rest + open_pairs (is_decided done) n
 rest_is_short n done [] on = omega arith
+rest_is_short n done (fixed u v ∷ rest) on =
+    let less = pairs_drop (is_decided done) (is_decided (done ++ fixed u v ∷ [])) (decided_stays done (fixed u v)) u v n on.0.0.0.0 on.0.0.0.1 on.0.0.1 (decided_fixed done u v) in
+    let ih = rest_is_short n (done ++ fixed u v ∷ []) rest on.1 in
+    omega arith
 rest_is_short n done (absent u v ∷ rest) on =
     let less = pairs_drop (is_decided done) (is_decided (done ++ absent u v ∷ [])) (decided_stays done (absent u v)) u v n on.0.0.0 on.0.0.1 on.0.1 (decided_absent done u v) in
     let ih = rest_is_short n (done ++ absent u v ∷ []) rest on.1 in

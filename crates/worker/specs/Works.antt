@@ -1,7 +1,7 @@
 -- What work on a node gives.
-use Rattle.std.specs.Prelude.{ℕ, suc, ◌+◌, ◌-◌, ◌*◌, ◌^◌, ◌≤◌, List, [], ◌∷◌, length, ◌<ℤ◌, min, Option, Some, None, IfSome}
+use Rattle.std.specs.Prelude.{◌≡◌, ℕ, suc, ◌+◌, ◌-◌, ◌*◌, ◌^◌, ◌≤◌, List, [], ◌∷◌, ◌++◌, length, ◌<ℤ◌, min, Option, Some, None, IfSome}
 use Rattle.tspdef.specs.Instances.{Instance, IsTourOf, length_in}
-use Rattle.tspdef.specs.Paths.{Condition, absent, present, two, four, IsPath}
+use Rattle.tspdef.specs.Paths.{Condition, fixed, absent, present, two, four, IsPath, root}
 use Rattle.tspdef.specs.Closings.{Closing, Fits}
 use Rattle.tspdef.specs.Bounds.{bound, needed}
 use Rattle.branchx.specs.Branch.{IsSplit}
@@ -11,9 +11,14 @@ use Rattle.pricer.specs.declared.closing.Report.TheVariants.{Closed, Split}
 use Rattle.worker.specs.Splits.{Splits}
 use Rattle.worker.specs.declared.work.Work.{Work}
 
+-- a path begins with the fixed pairs of its instance
+abbrev pub BeginsAt : Instance → List Condition → Type 0
+BeginsAt i path = (rest : List Condition) × (path ≡ root i ++ rest)
+
 -- how many conditions on sets a path has
 abbrev pub cliques : List Condition → ℕ
 cliques [] = 0
+cliques (fixed u v ∷ path) = cliques path
 cliques (absent u v ∷ path) = cliques path
 cliques (present u v ∷ path) = cliques path
 cliques (two s ∷ path) = suc (cliques path)

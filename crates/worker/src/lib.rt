@@ -5,12 +5,14 @@
 //!   in [`Effort`] what it cost.
 //! - [`PlainWorker`] knows zero duals, rays and splits alone; [`work_plainly`] is its work, and [`first_look`] what it does
 //!   where it needs no split. [`zeros_that_close`] are the zero duals, where they suffice.
+//! - [`root_path`] is the path of an instance's root, with which every path begins.
 //! - [`paths_are_short`]: the law that a path has few conditions beside those on sets.
 #![tactic(auto)]
 
 mod effort;
 mod laws;
 mod plain;
+mod roots;
 mod work;
 mod workers;
 mod zeros;
@@ -18,6 +20,7 @@ mod zeros;
 pub use effort::Effort;
 pub use laws::paths_are_short;
 pub use plain::{PlainWorker, first_look, work_plainly};
+pub use roots::root_path;
 pub use work::{Why, Work};
 pub use workers::Worker;
 pub use zeros::zeros_that_close;

@@ -1,12 +1,13 @@
 //! The plain worker.
 ghost use Rattle.std.specs.Prelude.{◌≡◌, ℕ, ◌^◌, ◌<◌, ◌≤◌, ◌↔◌, true, min, List, [], None, IfOk, IfSome, IsNone, IsTrue};
+ghost use Rattle.tspdef.specs.Tours.{IsTour};
 ghost use Rattle.tspdef.specs.Instances.{IsTourOf, length_in};
 ghost use Rattle.tspdef.specs.Paths.{DecidesAll};
 ghost use Rattle.tspdef.specs.Rays.{AreStepsOf};
 ghost use Rattle.branchx.specs.Branch.{IsSplit};
 ghost use Rattle.treebook.specs.Tree.{branch_of};
 ghost use Rattle.worker.specs.Splits.{IsOpenQuestion, IsNeededSplit, IsEdge, needed_splits_stay};
-ghost use Rattle.worker.specs.Works.{IsWork, SplitsOnly, IsSplitting, best_after};
+ghost use Rattle.worker.specs.Works.{BeginsAt, IsWork, SplitsOnly, IsSplitting, best_after};
 
 use crate::effort::Effort;
 use crate::work::Work;
@@ -40,6 +41,7 @@ impl Worker for PlainWorker {
         _seed: u64,
     ) -> Result<Work, AllocError>
         requires cities { path.now.n ≡ instance.now.n }
+        requires begins { BeginsAt instance.now path.now.conditions }
         requires short { best < 2 ^ 42 }
         ensures splits { IfOk result (λ w. SplitsOnly IsNeededSplit instance.now path.now.conditions best w.report) }
         ensures work { IfOk result (IsWork instance.now path.now.conditions best) }
@@ -59,6 +61,7 @@ pub fn work_plainly(
     best: u64,
 ) -> Result<Work, AllocError>
     requires cities { path.now.n ≡ instance.now.n }
+    requires begins { BeginsAt instance.now path.now.conditions }
     requires short { best < 2 ^ 42 }
     ensures splits { IfOk result (λ w. SplitsOnly IsNeededSplit instance.now path.now.conditions best w.report) }
     ensures work { IfOk result (IsWork instance.now path.now.conditions best) }
@@ -104,6 +107,7 @@ pub fn first_look(
     best: u64,
 ) -> Result<Option<Work>, AllocError>
     requires cities { path.now.n ≡ instance.now.n }
+    requires begins { BeginsAt instance.now path.now.conditions }
     requires short { best < 2 ^ 42 }
     ensures work { IfOk result (λ w. IfSome w (IsWork instance.now path.now.conditions best)) }
     ensures closed { IfOk result (λ w. IfSome w (λ it. ¬ IsSplitting it.report)) }
@@ -138,7 +142,8 @@ fn has_undecided(alloc: Global, instance: &Instance, path: &Path) -> Result<bool
     Ok(choose(alloc, &values, path)?.is_some())
 }
 
-/// The tour whose steps are the pairs that a path uses, if there is one, and the lesser of the best length and its length.
+/// The tour whose steps are the pairs that a path uses, if there is one, and the lesser of the best length and its length. It
+/// is a tour of the instance, since the path uses the fixed pairs.
 fn used_tour(
     alloc: Global,
     instance: &Instance,
@@ -146,9 +151,10 @@ fn used_tour(
     best: u64,
 ) -> Result<(Option<Tour>, u64), AllocError>
     requires cities { path.now.n ≡ instance.now.n }
+    requires begins { BeginsAt instance.now path.now.conditions }
     ensures tour { IfOk result (λ r. IfSome r.0 (IsTourOf instance.now)) }
     ensures lesser { IfOk result (λ r. r.1 ≡ best_after instance.now best r.0) }
-    ensures least { IfOk result (λ r. (tour : List ℕ) → IsTourOf instance.now tour → AreStepsOf instance.now.n path.now.conditions tour
+    ensures least { IfOk result (λ r. (tour : List ℕ) → IsTour instance.now.n tour → AreStepsOf instance.now.n path.now.conditions tour
         → r.1 ≤ length_in instance.now tour) }
 {
     used_pairs_are_one_tour();

@@ -1,9 +1,12 @@
+ghost use Rattle.std.specs.Prelude.{◌≡◌};
+
 use crate::{PlainWorker, Work, Worker};
 use branchx::{Branch, Cond, Path};
 use distx::{Kind, Point};
 use neigh::nearest;
 use pricer::Report;
 use std::alloc::{AllocError, Global};
+use std::process::Abort;
 use std::test::Fail;
 use tspinst::{Instance, from_points};
 
@@ -48,14 +51,29 @@ fn finds(work: &Work, cities: &[u32]) -> bool {
     }
 }
 
+/// What the plain worker does at a path of four cities, of which no pair is fixed.
+fn plain_work(
+    rt: &impl Abort,
+    alloc: Global,
+    square: &Instance,
+    path: &Path,
+    best: u64,
+) -> Result<Work, Fail>
+    requires { path.now.n ≡ 4 }
+{
+    assert_eq!(rt; square.n(), 4);
+    assert!(rt; square.fixed().is_empty());
+    assert!(rt; best < 100);
+    let near = nearest(alloc, square, 3)?;
+    Ok(PlainWorker.work(alloc, square, &near, path, best, 1)?)
+}
+
 #[test]
 fn the_plain_worker_splits_a_square(rt: HostRuntime) -> Result<(), Fail> {
     let alloc = rt.alloc();
     let square = square(alloc)?;
-    assert_eq!(rt; square.n(), 4);
-    let near = nearest(alloc, &square, 3)?;
     let path = Path::new(alloc, 4);
-    let work = PlainWorker.work(alloc, &square, &near, &path, 40, 1)?;
+    let work = plain_work(&rt, alloc, &square, &path, 40)?;
     assert!(rt; splits_by(&work, 0, 1));
     Ok(())
 }
@@ -64,8 +82,6 @@ fn the_plain_worker_splits_a_square(rt: HostRuntime) -> Result<(), Fail> {
 fn a_path_that_decides_all_is_closed(rt: HostRuntime) -> Result<(), Fail> {
     let alloc = rt.alloc();
     let square = square(alloc)?;
-    assert_eq!(rt; square.n(), 4);
-    let near = nearest(alloc, &square, 3)?;
     let mut path = Path::new(alloc, 4);
     path.push(Cond::Present(0, 1))?;
     path.push(Cond::Present(1, 2))?;
@@ -73,7 +89,7 @@ fn a_path_that_decides_all_is_closed(rt: HostRuntime) -> Result<(), Fail> {
     path.push(Cond::Present(0, 3))?;
     path.push(Cond::Absent(0, 2))?;
     path.push(Cond::Absent(1, 3))?;
-    let work = PlainWorker.work(alloc, &square, &near, &path, 48, 1)?;
+    let work = plain_work(&rt, alloc, &square, &path, 48)?;
     assert!(rt; finds(&work, &[0, 1, 2, 3]));
     assert!(rt; closes_by_zeros(&work));
     Ok(())

@@ -1,7 +1,7 @@
 //! Who works on nodes.
 ghost use Rattle.std.specs.Prelude.{◌≡◌, ℕ, ◌^◌, ◌<◌, ◌≤◌, Bool, true, List, IfOk};
 ghost use Rattle.worker.specs.Splits.{Splits, StayForMore};
-ghost use Rattle.worker.specs.Works.{IsWork, SplitsOnly, cliques};
+ghost use Rattle.worker.specs.Works.{BeginsAt, IsWork, SplitsOnly, cliques};
 
 use crate::work::Work;
 use branchx::Path;
@@ -23,7 +23,7 @@ pub trait Worker {
 
     /// Works on the node with this path, where the best tour so far has this length. The same seed gives the same work.
     ///
-    /// A path has at most 2^21 conditions on sets. On pairs it has at most one for each of the n (n - 1) / 2.
+    /// The path begins with the fixed pairs of the instance. It has at most 2^21 conditions on sets. On pairs it has at most one for each of the n (n - 1) / 2.
     fn work(
         &self,
         alloc: Global,
@@ -34,6 +34,7 @@ pub trait Worker {
         seed: u64,
     ) -> Result<Work, AllocError>
         requires cities { path.now.n ≡ instance.now.n }
+        requires begins { BeginsAt instance.now path.now.conditions }
         requires lists { near.now.n ≡ instance.now.n }
         requires few_cliques { cliques path.now.conditions ≤ 2 ^ 21 }
         requires short { best < 2 ^ 42 }

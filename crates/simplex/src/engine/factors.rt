@@ -1,18 +1,19 @@
-//! A basis as a product: a lower triangle, an upper one, and a change of one column for each pivot since.
+//! A basis as a product: a lower triangle, an upper one, and an eta for each pivot since.
 //!
-//! Each line has a row that was its pivot, and bears that row's number. So a list of numbers, one a row, is solved in
-//! place: by the lower triangle in the order of the pivots, by the upper one against it, then by the changes; and the
-//! other way round for a list by lines. Zeros are skipped. O(entries) each.
+//! Each column of the basis has a row that was its pivot, and bears that row's number. So `ftran` solves a list of numbers,
+//! one a row, in place: by the lower triangle in the order of the pivots, by the upper one against it, then by the etas; and
+//! `btran` the other way round. Zeros are skipped. O(entries) each.
 //! (Dantzig and Orchard-Hays 1954; Markowitz 1957; Suhl and Suhl 1990.)
-use super::fixed::{ONE, div, mul};
 use super::lists::{Entry, Lists};
+use super::numbers::{ONE, div, mul};
+use super::tolerances::MOST_ETAS;
 use std::alloc::{AllocError, Global};
 
-/// A column of the basis that a pivot changed: one over its entry in its own line. The others stand in a list.
+/// The change of one column of the basis by a pivot: one over its entry in its own row. The others stand in a list.
 #[derive(Clone, Copy)]
-struct Change {
-    line: u32,
-    back: i64,
+struct Eta {
+    row: u32,
+    reciprocal: i64,
 }
 
 /// The factors of a basis.
@@ -21,18 +22,16 @@ pub struct Factors {
     // the rows in the order of their pivots
     pub order: Vec<u32>,
     // of these, the ones that the lower triangle is not only 1 at
-    pub inner: Vec<u32>,
+    pub lower_order: Vec<u32>,
     pub lower: Lists,
     pub upper: Lists,
-    pub across: Lists,
-    // one over the upper triangle's own entry, of each row
-    pub back: Vec<i64>,
-    changes: Vec<Change>,
-    changed: Lists,
+    // the upper triangle by rows
+    pub upper_rows: Lists,
+    // one over the pivot of each row
+    pub reciprocals: Vec<i64>,
+    etas: Vec<Eta>,
+    eta_columns: Lists,
 }
-
-// so many changes are kept before the basis is factored anew
-const MANY: usize = 64;
 
 /// A number of a list.
 #[inline]
@@ -68,76 +67,81 @@ fn less_dot(list: &[i64], entries: &[Entry], from: i64) -> i64 {
 }
 
 impl Factors {
-    /// The factors of no lines.
+    /// The factors of no rows.
     pub fn none(alloc: Global) -> Factors {
         Factors {
             order: Vec::new(alloc),
-            inner: Vec::new(alloc),
+            lower_order: Vec::new(alloc),
             lower: Lists::none(alloc),
             upper: Lists::none(alloc),
-            across: Lists::none(alloc),
-            back: Vec::new(alloc),
-            changes: Vec::new(alloc),
-            changed: Lists::none(alloc),
+            upper_rows: Lists::none(alloc),
+            reciprocals: Vec::new(alloc),
+            etas: Vec::new(alloc),
+            eta_columns: Lists::none(alloc),
         }
     }
 
-    /// Room for the factors of so many lines.
+    /// Room for the factors of so many rows.
     pub fn new(alloc: Global, count: usize) -> Result<Factors, AllocError> {
         let mut factors = Factors::none(alloc);
         factors.lower = Lists::new(alloc, count)?;
         factors.upper = Lists::new(alloc, count)?;
-        factors.back = vec![in alloc; ONE; count]?;
-        factors.changed = Lists::new(alloc, MANY)?;
+        factors.reciprocals = vec![in alloc; ONE; count]?;
+        factors.eta_columns = Lists::new(alloc, MOST_ETAS)?;
         Ok(factors)
     }
 
-    /// Whether as many changes are kept as may be.
-    pub fn is_full(&self) -> bool {
-        self.changes.len() >= MANY
+    /// Whether no pivot was made since the basis was factored.
+    pub fn is_fresh(&self) -> bool {
+        self.etas.is_empty()
     }
 
-    /// A line's column becomes another one, which is given in terms of the lines.
-    pub fn change(&mut self, line: u32, column: &[i64]) -> Result<(), AllocError> {
+    /// Whether the basis is to be factored anew.
+    pub fn is_full(&self) -> bool {
+        self.etas.len() >= MOST_ETAS
+    }
+
+    /// The column of a row becomes another one, which is given in terms of the basis.
+    pub fn push_eta(&mut self, row: u32, column: &[i64]) -> Result<(), AllocError> {
         let mut place: u32 = 0;
         for x in column {
-            if *x != 0 && place != line {
-                self.changed.push(place, *x)?;
+            if *x != 0 && place != row {
+                self.eta_columns.push(place, *x)?;
             }
             place = place.wrapping_add(1);
         }
-        self.changed
-            .close((self.changes.len() & 0xffff_ffff) as u32);
-        self.changes.push(Change {
-            line,
-            back: div(ONE, at(column, line)),
+        self.eta_columns
+            .close((self.etas.len() & 0xffff_ffff) as u32);
+        self.etas.push(Eta {
+            row,
+            reciprocal: div(ONE, at(column, row)),
         })?;
         Ok(())
     }
 
-    /// From a list by rows to what the lines have to be for it.
-    pub fn forward(&self, list: &mut [i64]) {
-        for row in &self.inner {
+    /// Solves for a right side: the basis times the new list is the old one.
+    pub fn ftran(&self, list: &mut [i64]) {
+        for row in &self.lower_order {
             let x = at(list, *row);
             if x != 0 {
                 take_off(list, self.lower.of(*row), x);
             }
         }
         for row in self.order.iter().rev() {
-            self.forward_at(list, *row);
+            self.ftran_at(list, *row);
         }
         let mut place: u32 = 0;
-        for change in &self.changes {
-            self.forward_change(list, change, place);
+        for eta in &self.etas {
+            self.ftran_eta(list, eta, place);
             place = place.wrapping_add(1);
         }
     }
 
     #[inline]
-    fn forward_at(&self, list: &mut [i64], row: u32) {
+    fn ftran_at(&self, list: &mut [i64], row: u32) {
         let x = at(list, row);
         if x != 0 {
-            let y = mul(x, at(&self.back, row));
+            let y = mul(x, at(&self.reciprocals, row));
             if let Some(to) = list.get_mut(row as usize) {
                 *to = y;
             }
@@ -146,31 +150,31 @@ impl Factors {
     }
 
     #[inline]
-    fn forward_change(&self, list: &mut [i64], change: &Change, place: u32) {
-        let x = at(list, change.line);
+    fn ftran_eta(&self, list: &mut [i64], eta: &Eta, place: u32) {
+        let x = at(list, eta.row);
         if x != 0 {
-            let y = mul(x, change.back);
-            if let Some(to) = list.get_mut(change.line as usize) {
+            let y = mul(x, eta.reciprocal);
+            if let Some(to) = list.get_mut(eta.row as usize) {
                 *to = y;
             }
-            take_off(list, self.changed.of(place), y);
+            take_off(list, self.eta_columns.of(place), y);
         }
     }
 
-    /// From a list by lines to what the rows have to be for it.
-    pub fn backward(&self, list: &mut [i64]) {
-        let mut place = (self.changes.len() & 0xffff_ffff) as u32;
-        for change in self.changes.iter().rev() {
+    /// Solves for costs: the new list times the basis is the old one.
+    pub fn btran(&self, list: &mut [i64]) {
+        let mut place = (self.etas.len() & 0xffff_ffff) as u32;
+        for eta in self.etas.iter().rev() {
             place = place.wrapping_sub(1);
-            let rest = less_dot(list, self.changed.of(place), at(list, change.line));
-            if let Some(to) = list.get_mut(change.line as usize) {
-                *to = mul(rest, change.back);
+            let rest = less_dot(list, self.eta_columns.of(place), at(list, eta.row));
+            if let Some(to) = list.get_mut(eta.row as usize) {
+                *to = mul(rest, eta.reciprocal);
             }
         }
         for row in &self.order {
-            self.backward_at(list, *row);
+            self.btran_at(list, *row);
         }
-        for row in self.inner.iter().rev() {
+        for row in self.lower_order.iter().rev() {
             let rest = less_dot(list, self.lower.of(*row), at(list, *row));
             if let Some(to) = list.get_mut(*row as usize) {
                 *to = rest;
@@ -179,14 +183,14 @@ impl Factors {
     }
 
     #[inline]
-    fn backward_at(&self, list: &mut [i64], row: u32) {
+    fn btran_at(&self, list: &mut [i64], row: u32) {
         let x = at(list, row);
         if x != 0 {
-            let y = mul(x, at(&self.back, row));
+            let y = mul(x, at(&self.reciprocals, row));
             if let Some(to) = list.get_mut(row as usize) {
                 *to = y;
             }
-            take_off(list, self.across.of(row), y);
+            take_off(list, self.upper_rows.of(row), y);
         }
     }
 }

@@ -1,11 +1,12 @@
 //! New rows and columns.
-use super::fixed::{FAR, ONE};
 use super::lists::{Entry, narrow};
-use super::{Engine, Head, Line, Pair, Rate, Slack, State, dot};
+use super::numbers::ONE;
+use super::tolerances::{COST_BITS, FAR, PERTURBATION_SHIFT};
+use super::{BasisRow, Engine, Priced, Slack, State, Structural, Variable, dot};
 use lpcheck::{Cells, Column, Row, Sense};
 use std::alloc::{AllocError, Global};
 
-/// The next of some numbers that look drawn.
+/// The next of some pseudo-random numbers.
 fn next(seed: u64) -> u64 {
     seed.wrapping_mul(6_364_136_223_846_793_005)
         .wrapping_add(1_442_695_040_888_963_407)
@@ -27,14 +28,14 @@ impl Engine {
         cols: &[Column],
     ) -> Result<(), AllocError> {
         let old_rows = self.slacks.len();
-        let old_cols = self.pairs.len();
+        let old_cols = self.structurals.len();
         for column in cols.iter().skip(old_cols) {
-            self.add_pair(alloc, column, cols.len())?;
+            self.add_structural(alloc, column, cols.len())?;
         }
         for (cells, place) in table.iter().zip(0..old_rows) {
             self.add_entries(cells, place, old_cols)?;
         }
-        self.start_pairs(old_cols);
+        self.place_structurals(old_cols);
         for (row, cells) in rows.iter().zip(table).skip(old_rows) {
             self.add_row(row, cells)?;
         }
@@ -42,24 +43,34 @@ impl Engine {
     }
 
     /// A new column, without its entries.
-    fn add_pair(&mut self, alloc: Global, column: &Column, all: usize) -> Result<(), AllocError> {
+    fn add_structural(
+        &mut self,
+        alloc: Global,
+        column: &Column,
+        all: usize,
+    ) -> Result<(), AllocError> {
         self.seed = next(self.seed);
-        let part = (self.seed >> 36) as i64;
+        let part = (self.seed >> PERTURBATION_SHIFT) as i64;
         let many = (all & 0xffff_ffff) as i64;
-        let noise = part.wrapping_div(many.wrapping_add(1).max(1));
-        let cost = (i64::from(column.cost).wrapping_mul(ONE)) >> (self.shift.min(12));
-        self.pairs.push(Pair {
+        let perturbation = part.wrapping_div(many.wrapping_add(1).max(1));
+        let cost = (i64::from(column.cost).wrapping_mul(ONE))
+            >> (self.cost_shift.min(32 - COST_BITS));
+        self.structurals.push(Structural {
             cost,
-            noise,
-            held: column.must,
+            perturbation,
+            fixed: column.must,
             entries: Vec::new(alloc),
             value: if column.must { ONE } else { 0 },
         })?;
-        self.rates.push(Rate {
-            reduced: 0,
-            step: 0,
-            state: if column.must { State::Held } else { State::Low },
-            hit: false,
+        self.priced.push(Priced {
+            reduced_cost: 0,
+            pivot_entry: 0,
+            state: if column.must {
+                State::Fixed
+            } else {
+                State::AtLower
+            },
+            in_pivot_row: false,
         })?;
         Ok(())
     }
@@ -75,8 +86,8 @@ impl Engine {
     }
 
     fn add_entry(&mut self, column: u32, row: usize, coef: u16) -> Result<(), AllocError> {
-        if let Some(pair) = self.pairs.get_mut(column as usize) {
-            pair.entries.push(Entry {
+        if let Some(structural) = self.structurals.get_mut(column as usize) {
+            structural.entries.push(Entry {
                 row: narrow(row),
                 coef: i64::from(coef),
             })?;
@@ -84,29 +95,34 @@ impl Engine {
         Ok(())
     }
 
-    /// Puts each new column at the bound that its reduced cost asks for. The values of the lines are mended later.
-    fn start_pairs(&mut self, from: usize) {
-        for (pair, rate) in self.pairs.iter_mut().zip(self.rates.iter_mut()).skip(from) {
-            rate.reduced = pair
+    /// Puts each new column at the bound that its reduced cost asks for. The values of the basic variables are refined later.
+    fn place_structurals(&mut self, from: usize) {
+        for (structural, priced) in self
+            .structurals
+            .iter_mut()
+            .zip(self.priced.iter_mut())
+            .skip(from)
+        {
+            priced.reduced_cost = structural
                 .cost
-                .wrapping_add(pair.noise)
-                .wrapping_sub(dot(&pair.entries, &self.duals));
-            if !pair.held && rate.reduced < 0 {
-                rate.state = State::High;
-                pair.value = ONE;
+                .wrapping_add(structural.perturbation)
+                .wrapping_sub(dot(&structural.entries, &self.duals));
+            if !structural.fixed && priced.reduced_cost < 0 {
+                priced.state = State::AtUpper;
+                structural.value = ONE;
             }
         }
     }
 
-    /// A new row, with its slack basic in a new line.
+    /// A new row, with its slack basic in a new basis row.
     fn add_row(&mut self, row: &Row, cells: &Cells) -> Result<(), AllocError> {
         let place = self.slacks.len();
         self.add_entries(cells, place, 0)?;
         let rhs = i64::from(row.rhs).wrapping_mul(ONE);
         let mut value = rhs;
         for cell in cells.list() {
-            if let Some(pair) = self.pairs.get(cell.column as usize) {
-                value = take_off(value, cell.coef, pair.value);
+            if let Some(structural) = self.structurals.get(cell.column as usize) {
+                value = take_off(value, cell.coef, structural.value);
             }
         }
         let low = if row.sense == Sense::AtLeast { -FAR } else { 0 };
@@ -116,11 +132,11 @@ impl Engine {
             high,
             rhs,
             state: State::Basic,
-            reduced: 0,
+            reduced_cost: 0,
             value,
         })?;
-        self.lines.push(Line {
-            head: Head::Slack(narrow(place)),
+        self.basis.push(BasisRow {
+            variable: Variable::Slack(narrow(place)),
             value,
             low,
             high,

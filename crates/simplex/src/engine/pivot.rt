@@ -1,31 +1,25 @@
 //! Pivots.
 use super::factors::at;
-use super::fixed::{ONE, div, mul};
 use super::lists::narrow;
-use super::ratio::SMALL;
-use super::{Engine, Head, State};
+use super::numbers::{ONE, div, mul};
+use super::tolerances::{INFEASIBILITY, LEAST_COLUMN_ENTRY, MOST_WEIGHT};
+use super::{Engine, State, Variable};
 use lpcheck::Cells;
 use std::alloc::{AllocError, Global};
 
-// no reference weight is larger
-const HEAVY: i64 = 1_099_511_627_776;
-
-// a step of an entering variable is at least this
-const TINY: i64 = 4_194_304;
-
 /// The bounds and the value of a variable that enters.
 #[derive(Clone, Copy)]
-struct Start {
+struct Bounds {
     value: i64,
     low: i64,
     high: i64,
 }
 
-/// Whether a miss weighs more than the worst so far.
+/// Whether an infeasibility weighs more than the worst so far.
 #[inline]
-fn is_worse(miss: i64, weight: i64, worst: i64, worst_weight: i64) -> bool {
-    let a = i128::from(miss.clamp(0, 1_099_511_627_776));
-    let b = i128::from(worst.clamp(0, 1_099_511_627_776));
+fn is_worse(infeasibility: i64, weight: i64, worst: i64, worst_weight: i64) -> bool {
+    let a = i128::from(infeasibility.clamp(0, MOST_WEIGHT));
+    let b = i128::from(worst.clamp(0, MOST_WEIGHT));
     let left = a.wrapping_mul(a).wrapping_mul(i128::from(worst_weight));
     let right = b.wrapping_mul(b).wrapping_mul(i128::from(weight));
     left > right
@@ -33,87 +27,74 @@ fn is_worse(miss: i64, weight: i64, worst: i64, worst_weight: i64) -> bool {
 
 /// The state of a variable that leaves the basis at a bound.
 #[inline]
-fn state_at(low: i64, high: i64, miss: i64) -> State {
+fn state_at(low: i64, high: i64, infeasibility: i64) -> State {
     if low == high {
-        State::Held
-    } else if miss > 0 {
-        State::High
+        State::Fixed
+    } else if infeasibility > 0 {
+        State::AtUpper
     } else {
-        State::Low
+        State::AtLower
     }
 }
 
 impl Engine {
-    /// At most so many pivots, until every line is within its bounds, or one shows that the program has no values.
-    pub fn pivot_all(
+    /// At most so many pivots, until every basic variable is within its bounds, or one shows that no values meet the rows.
+    pub fn iterate(
         &mut self,
         alloc: Global,
         table: &[Cells],
         pivots: u32,
     ) -> Result<(), AllocError> {
-        self.forget_ray();
-        self.factor(alloc)?;
-        self.refresh();
-        let mut fresh = true;
+        self.clear_ray();
+        self.refactor(alloc)?;
         for _ in 0..pivots {
             if self.factors.is_full() {
-                self.factor(alloc)?;
-                self.refresh();
-                fresh = true;
+                self.refactor(alloc)?;
             }
-            match self.leaving() {
-                None => {
-                    if fresh {
-                        break;
-                    }
-                    self.factor(alloc)?;
-                    self.refresh();
-                    fresh = true;
+            if !self.try_pivot(table)? {
+                if self.factors.is_fresh() {
+                    break;
                 }
-                Some((line, miss)) => {
-                    self.take_line(line);
-                    self.price(table)?;
-                    match self.entering(miss)? {
-                        Some(head) => {
-                            if self.pivot(line, head)? {
-                                fresh = false;
-                            } else if fresh {
-                                break;
-                            } else {
-                                self.factor(alloc)?;
-                                self.refresh();
-                                fresh = true;
-                            }
-                        }
-                        None => {
-                            if fresh {
-                                self.follow_ray(miss < 0);
-                                break;
-                            }
-                            self.factor(alloc)?;
-                            self.refresh();
-                            fresh = true;
-                        }
-                    }
-                }
+                self.refactor(alloc)?;
             }
         }
         self.finish();
         Ok(())
     }
 
-    /// The line whose miss weighs most, and by how much it is out of its bounds: negative below.
-    fn leaving(&self) -> Option<(usize, i64)> {
+    /// One iteration of the dual simplex: whether a pivot was made. With fresh factors none is made at an optimum, or where the
+    /// pivot row is a ray of the duals, or where no pivot is large enough.
+    fn try_pivot(&mut self, table: &[Cells]) -> Result<bool, AllocError> {
+        let Some((place, infeasibility)) = self.choose_leaving() else {
+            return Ok(false);
+        };
+        self.btran_row(place);
+        self.price(table)?;
+        match self.ratio_test(infeasibility)? {
+            Some(variable) => self.pivot(place, variable),
+            None => {
+                if self.factors.is_fresh() {
+                    self.follow_ray(infeasibility < 0);
+                }
+                Ok(false)
+            }
+        }
+    }
+
+    /// The basis row whose infeasibility weighs most, and by how much it is out of its bounds: negative below.
+    fn choose_leaving(&self) -> Option<(usize, i64)> {
         let mut place: Option<(usize, i64)> = None;
         let mut worst: i64 = 0;
         let mut weight: i64 = ONE;
-        for (i, line) in self.lines.iter().enumerate() {
-            let below = line.low.wrapping_sub(line.value);
-            let above = line.value.wrapping_sub(line.high);
-            let miss = below.max(above);
-            if miss > SMALL && (place.is_none() || is_worse(miss, line.weight, worst, weight)) {
-                worst = miss;
-                weight = line.weight;
+        for (i, row) in self.basis.iter().enumerate() {
+            let below = row.low.wrapping_sub(row.value);
+            let above = row.value.wrapping_sub(row.high);
+            let infeasibility = below.max(above);
+            if infeasibility > INFEASIBILITY
+                && (place.is_none() || is_worse(infeasibility, row.weight, worst, weight))
+            {
+                worst = infeasibility;
+                weight = row.weight;
                 place = Some((
                     i,
                     if below > above {
@@ -127,15 +108,15 @@ impl Engine {
         place
     }
 
-    /// Takes a line of the inverse into `rho`.
-    fn take_line(&mut self, line: usize) {
+    /// Takes the row of the inverse of a basis row into `rho`.
+    fn btran_row(&mut self, place: usize) {
         for to in self.rho.iter_mut() {
             *to = 0;
         }
-        if let Some(to) = self.rho.get_mut(line) {
+        if let Some(to) = self.rho.get_mut(place) {
             *to = ONE;
         }
-        self.factors.backward(&mut self.rho);
+        self.factors.btran(&mut self.rho);
     }
 
     fn clear_work(&mut self) {
@@ -144,77 +125,78 @@ impl Engine {
         }
     }
 
-    /// Writes a variable's column, in terms of the lines, into `work`.
-    fn take_column(&mut self, head: Head) {
+    /// Writes a variable's column, in terms of the basis, into `work`.
+    fn ftran_column(&mut self, variable: Variable) {
         self.clear_work();
-        match head {
-            Head::Column(j) => {
-                if let Some(pair) = self.pairs.get(j as usize) {
-                    for entry in &pair.entries {
+        match variable {
+            Variable::Column(j) => {
+                if let Some(structural) = self.structurals.get(j as usize) {
+                    for entry in &structural.entries {
                         if let Some(to) = self.work.get_mut(entry.row as usize) {
                             *to = entry.coef.wrapping_mul(ONE);
                         }
                     }
                 }
             }
-            Head::Slack(i) => {
+            Variable::Slack(i) => {
                 if let Some(to) = self.work.get_mut(i as usize) {
                     *to = ONE;
                 }
             }
         }
-        self.factors.forward(&mut self.work);
+        self.factors.ftran(&mut self.work);
     }
 
-    /// Puts the columns of `flips` at their other bounds, and moves the lines' values.
+    /// Puts the columns of `flips` at their other bounds, and moves the values of the basic variables.
     fn flip(&mut self) {
         if self.flips.is_empty() {
             return;
         }
         self.clear_work();
         for place in &self.flips {
-            if let (Some(pair), Some(rate)) = (
-                self.pairs.get_mut(*place as usize),
-                self.rates.get_mut(*place as usize),
+            if let (Some(structural), Some(priced)) = (
+                self.structurals.get_mut(*place as usize),
+                self.priced.get_mut(*place as usize),
             ) {
-                let up = rate.state == State::Low;
-                rate.state = if up { State::High } else { State::Low };
-                pair.value = if up { ONE } else { 0 };
+                let up = priced.state == State::AtLower;
+                priced.state = if up { State::AtUpper } else { State::AtLower };
+                structural.value = if up { ONE } else { 0 };
                 let change = if up { ONE } else { -ONE };
-                for entry in &pair.entries {
+                for entry in &structural.entries {
                     if let Some(to) = self.work.get_mut(entry.row as usize) {
                         *to = to.wrapping_add(entry.coef.wrapping_mul(change));
                     }
                 }
             }
         }
-        self.factors.forward(&mut self.work);
-        for (line, x) in self.lines.iter_mut().zip(&self.work) {
-            line.value = line.value.wrapping_sub(*x);
+        self.factors.ftran(&mut self.work);
+        for (row, x) in self.basis.iter_mut().zip(&self.work) {
+            row.value = row.value.wrapping_sub(*x);
         }
     }
 
-    fn start_of(&self, head: Head) -> Start {
-        match head {
-            Head::Column(j) => match self.pairs.get(j as usize) {
-                Some(pair) => Start {
-                    value: pair.value,
+    /// The value and the bounds of a variable.
+    fn bounds_of(&self, variable: Variable) -> Bounds {
+        match variable {
+            Variable::Column(j) => match self.structurals.get(j as usize) {
+                Some(structural) => Bounds {
+                    value: structural.value,
                     low: 0,
                     high: ONE,
                 },
-                None => Start {
+                None => Bounds {
                     value: 0,
                     low: 0,
                     high: 0,
                 },
             },
-            Head::Slack(i) => match self.slacks.get(i as usize) {
-                Some(slack) => Start {
+            Variable::Slack(i) => match self.slacks.get(i as usize) {
+                Some(slack) => Bounds {
                     value: slack.value,
                     low: slack.low,
                     high: slack.high,
                 },
-                None => Start {
+                None => Bounds {
                     value: 0,
                     low: 0,
                     high: 0,
@@ -223,109 +205,112 @@ impl Engine {
         }
     }
 
-    fn reduced_of(&self, head: Head) -> i64 {
-        match head {
-            Head::Column(j) => match self.rates.get(j as usize) {
-                Some(rate) => rate.reduced,
+    fn reduced_cost_of(&self, variable: Variable) -> i64 {
+        match variable {
+            Variable::Column(j) => match self.priced.get(j as usize) {
+                Some(priced) => priced.reduced_cost,
                 None => 0,
             },
-            Head::Slack(i) => match self.slacks.get(i as usize) {
-                Some(slack) => slack.reduced,
+            Variable::Slack(i) => match self.slacks.get(i as usize) {
+                Some(slack) => slack.reduced_cost,
                 None => 0,
             },
         }
     }
 
     /// Puts a variable into a state, with its reduced cost.
-    pub(super) fn put(&mut self, head: Head, state: State, reduced: i64) {
-        match head {
-            Head::Column(j) => {
-                if let (Some(pair), Some(rate)) = (
-                    self.pairs.get_mut(j as usize),
-                    self.rates.get_mut(j as usize),
+    pub(super) fn put(&mut self, variable: Variable, state: State, reduced_cost: i64) {
+        match variable {
+            Variable::Column(j) => {
+                if let (Some(structural), Some(priced)) = (
+                    self.structurals.get_mut(j as usize),
+                    self.priced.get_mut(j as usize),
                 ) {
-                    rate.state = state;
-                    rate.reduced = reduced;
-                    pair.value = match state {
-                        State::Basic | State::Held => pair.value,
-                        State::Low => 0,
-                        State::High => ONE,
+                    priced.state = state;
+                    priced.reduced_cost = reduced_cost;
+                    structural.value = match state {
+                        State::Basic | State::Fixed => structural.value,
+                        State::AtLower => 0,
+                        State::AtUpper => ONE,
                     };
                 }
             }
-            Head::Slack(i) => {
+            Variable::Slack(i) => {
                 if let Some(slack) = self.slacks.get_mut(i as usize) {
                     slack.state = state;
-                    slack.reduced = reduced;
+                    slack.reduced_cost = reduced_cost;
                     slack.value = match state {
                         State::Basic => slack.value,
-                        State::Low | State::Held => slack.low,
-                        State::High => slack.high,
+                        State::AtLower | State::Fixed => slack.low,
+                        State::AtUpper => slack.high,
                     };
                 }
             }
         }
     }
 
-    fn update_reduced(&mut self, ratio: i64) {
-        for place in &self.hits {
-            if let Some(rate) = self.rates.get_mut(*place as usize) {
-                rate.reduced = rate.reduced.wrapping_sub(mul(ratio, rate.step));
+    /// Moves the reduced costs by a dual step along the pivot row.
+    fn update_reduced_costs(&mut self, dual_step: i64) {
+        for place in &self.pivot_row {
+            if let Some(priced) = self.priced.get_mut(*place as usize) {
+                priced.reduced_cost = priced
+                    .reduced_cost
+                    .wrapping_sub(mul(dual_step, priced.pivot_entry));
             }
         }
-        for (slack, step) in self.slacks.iter_mut().zip(&self.rho) {
-            if *step != 0 {
-                slack.reduced = slack.reduced.wrapping_sub(mul(ratio, *step));
-            }
-        }
-    }
-
-    /// Moves the values and the weights of the lines.
-    fn update_lines(&mut self, change: i64, back: i64, weight: i64) {
-        for (line, step) in self.lines.iter_mut().zip(&self.work) {
-            if *step != 0 {
-                line.value = line.value.wrapping_sub(mul(change, *step));
-                let ratio = mul(*step, back);
-                let grown = mul(mul(ratio, ratio), weight).clamp(0, HEAVY);
-                line.weight = line.weight.max(grown);
+        for (slack, entry) in self.slacks.iter_mut().zip(&self.rho) {
+            if *entry != 0 {
+                slack.reduced_cost = slack.reduced_cost.wrapping_sub(mul(dual_step, *entry));
             }
         }
     }
 
-    /// A variable enters for a line: whether it could.
-    fn pivot(&mut self, leaving: usize, head: Head) -> Result<bool, AllocError> {
+    /// Moves the values of the basic variables by a primal step along the entering column, and grows their weights.
+    fn update_basis(&mut self, primal_step: i64, reciprocal: i64, weight: i64) {
+        for (row, entry) in self.basis.iter_mut().zip(&self.work) {
+            if *entry != 0 {
+                row.value = row.value.wrapping_sub(mul(primal_step, *entry));
+                let ratio = mul(*entry, reciprocal);
+                let grown = mul(mul(ratio, ratio), weight).clamp(0, MOST_WEIGHT);
+                row.weight = row.weight.max(grown);
+            }
+        }
+    }
+
+    /// A variable enters for the one of a basis row: whether its entry there is large enough.
+    fn pivot(&mut self, place: usize, entering: Variable) -> Result<bool, AllocError> {
         self.flip();
-        self.take_column(head);
-        let step = at(&self.work, narrow(leaving));
-        let start = self.start_of(head);
-        let Some(line) = self.lines.get(leaving).copied() else {
+        self.ftran_column(entering);
+        let entry = at(&self.work, narrow(place));
+        let bounds = self.bounds_of(entering);
+        let Some(leaving) = self.basis.get(place).copied() else {
             return Ok(false);
         };
-        if step.wrapping_abs() < TINY {
+        if entry.wrapping_abs() < LEAST_COLUMN_ENTRY {
             return Ok(false);
         }
-        let below = line.low.wrapping_sub(line.value);
-        let above = line.value.wrapping_sub(line.high);
-        let miss = if below > above {
+        let below = leaving.low.wrapping_sub(leaving.value);
+        let above = leaving.value.wrapping_sub(leaving.high);
+        let infeasibility = if below > above {
             below.wrapping_neg()
         } else {
             above
         };
-        let change = div(miss, step);
-        let ratio = div(self.reduced_of(head), step);
-        self.update_reduced(ratio);
-        self.put(head, State::Basic, 0);
-        let bound = state_at(line.low, line.high, miss);
-        self.put(line.head, bound, ratio.wrapping_neg());
-        let back = div(ONE, step);
-        self.update_lines(change, back, line.weight);
-        self.factors.change(narrow(leaving), &self.work)?;
-        if let Some(to) = self.lines.get_mut(leaving) {
-            to.head = head;
-            to.value = start.value.wrapping_add(change);
-            to.low = start.low;
-            to.high = start.high;
-            to.weight = mul(mul(back, back), line.weight).clamp(ONE, HEAVY);
+        let primal_step = div(infeasibility, entry);
+        let dual_step = div(self.reduced_cost_of(entering), entry);
+        self.update_reduced_costs(dual_step);
+        self.put(entering, State::Basic, 0);
+        let state = state_at(leaving.low, leaving.high, infeasibility);
+        self.put(leaving.variable, state, dual_step.wrapping_neg());
+        let reciprocal = div(ONE, entry);
+        self.update_basis(primal_step, reciprocal, leaving.weight);
+        self.factors.push_eta(narrow(place), &self.work)?;
+        if let Some(to) = self.basis.get_mut(place) {
+            to.variable = entering;
+            to.value = bounds.value.wrapping_add(primal_step);
+            to.low = bounds.low;
+            to.high = bounds.high;
+            to.weight = mul(mul(reciprocal, reciprocal), leaving.weight).clamp(ONE, MOST_WEIGHT);
         }
         Ok(true)
     }

@@ -1,56 +1,57 @@
 //! The ratio test.
 //!
-//! As the dual of the leaving line grows, reduced costs reach 0 one after the other. At each the slope of the lower side
-//! falls by the column's step times its range; as long as it stays positive the column goes over to its other bound and
-//! the dual grows on. The variable at which it would not enters. (Maros 2003; Kirillova, Gabasov and Kostyukova 1979.)
-use super::fixed::{FAR, ONE, is_less_ratio, mul};
-use super::{Break, Engine, Head, State};
+//! As the dual step of the leaving variable grows, reduced costs reach 0 one after the other, at the breakpoints. At each
+//! the slope of the lower side falls by the size of the column's entry in the pivot row times its range; as long as it stays
+//! positive the column goes over to its other bound and the dual step grows on. The variable at which it would not enters:
+//! the bound flipping ratio test. (Maros 2003; Kirillova, Gabasov and Kostyukova 1979.)
+use super::numbers::{ONE, is_less_ratio, mul};
+use super::tolerances::{FAR, INFEASIBILITY, LEAST_ROW_ENTRY};
+use super::{Breakpoint, Engine, State, Variable};
 use lpcheck::Cells;
 use std::alloc::AllocError;
 
-// no step of an entering variable is smaller than this
-const PIVOT: i64 = 8_388_608;
-
-// misses up to this are taken for rounding
-pub const SMALL: i64 = 65_536;
-
-/// Whether a variable may enter: its step, seen in the direction in which the line is to change, fits its bound.
+/// Whether a variable may enter: its entry in the pivot row, seen in the direction in which the leaving variable is to change,
+/// fits its bound.
 #[inline]
-fn may_enter(state: State, step: i64, up: bool) -> bool {
-    let signed = if up { step } else { step.wrapping_neg() };
+fn may_enter(state: State, pivot_entry: i64, up: bool) -> bool {
+    let signed = if up {
+        pivot_entry
+    } else {
+        pivot_entry.wrapping_neg()
+    };
     match state {
-        State::Low => signed < -PIVOT,
-        State::High => signed > PIVOT,
-        State::Basic | State::Held => false,
+        State::AtLower => signed < -LEAST_ROW_ENTRY,
+        State::AtUpper => signed > LEAST_ROW_ENTRY,
+        State::Basic | State::Fixed => false,
     }
 }
 
-/// The size of a reduced cost; none on the wrong side.
+/// How far a reduced cost is from 0; none on the wrong side.
 #[inline]
-fn size_of(state: State, reduced: i64) -> i64 {
-    let signed = if state == State::High {
-        reduced.wrapping_neg()
+fn dual_slack(state: State, reduced_cost: i64) -> i64 {
+    let signed = if state == State::AtUpper {
+        reduced_cost.wrapping_neg()
     } else {
-        reduced
+        reduced_cost
     };
     signed.max(0)
 }
 
 impl Engine {
-    /// What each column has of `rho`.
+    /// The pivot row: what each column has of `rho`.
     pub fn price(&mut self, table: &[Cells]) -> Result<(), AllocError> {
-        self.forget_hits();
+        self.clear_pivot_row();
         for (factor, cells) in self.rho.iter().zip(table) {
             if *factor != 0 {
                 for cell in cells.list() {
-                    if let Some(rate) = self.rates.get_mut(cell.column as usize) {
-                        if rate.state != State::Basic {
-                            if !rate.hit {
-                                rate.hit = true;
-                                self.hits.push(cell.column)?;
+                    if let Some(priced) = self.priced.get_mut(cell.column as usize) {
+                        if priced.state != State::Basic {
+                            if !priced.in_pivot_row {
+                                priced.in_pivot_row = true;
+                                self.pivot_row.push(cell.column)?;
                             }
                             let part = i64::from(cell.coef).wrapping_mul(*factor);
-                            rate.step = rate.step.wrapping_add(part);
+                            priced.pivot_entry = priced.pivot_entry.wrapping_add(part);
                         }
                     }
                 }
@@ -59,25 +60,25 @@ impl Engine {
         Ok(())
     }
 
-    fn forget_hits(&mut self) {
-        for place in &self.hits {
-            if let Some(rate) = self.rates.get_mut(*place as usize) {
-                rate.hit = false;
-                rate.step = 0;
+    fn clear_pivot_row(&mut self) {
+        for place in &self.pivot_row {
+            if let Some(priced) = self.priced.get_mut(*place as usize) {
+                priced.in_pivot_row = false;
+                priced.pivot_entry = 0;
             }
         }
-        self.hits.clear();
+        self.pivot_row.clear();
     }
 
     /// Lists the columns that may enter.
     fn list_columns(&mut self, up: bool) -> Result<(), AllocError> {
-        for place in &self.hits {
-            if let Some(rate) = self.rates.get(*place as usize) {
-                if may_enter(rate.state, rate.step, up) {
-                    self.breaks.push(Break {
-                        head: Head::Column(*place),
-                        reduced: size_of(rate.state, rate.reduced),
-                        step: rate.step.wrapping_abs(),
+        for place in &self.pivot_row {
+            if let Some(priced) = self.priced.get(*place as usize) {
+                if may_enter(priced.state, priced.pivot_entry, up) {
+                    self.breakpoints.push(Breakpoint {
+                        variable: Variable::Column(*place),
+                        reduced_cost: dual_slack(priced.state, priced.reduced_cost),
+                        pivot_entry: priced.pivot_entry.wrapping_abs(),
                         range: ONE,
                     })?;
                 }
@@ -89,12 +90,12 @@ impl Engine {
     /// Lists the slacks that may enter.
     fn list_slacks(&mut self, up: bool) -> Result<(), AllocError> {
         let mut place: u32 = 0;
-        for (slack, step) in self.slacks.iter().zip(&self.rho) {
-            if *step != 0 && may_enter(slack.state, *step, up) {
-                self.breaks.push(Break {
-                    head: Head::Slack(place),
-                    reduced: size_of(slack.state, slack.reduced),
-                    step: step.wrapping_abs(),
+        for (slack, pivot_entry) in self.slacks.iter().zip(&self.rho) {
+            if *pivot_entry != 0 && may_enter(slack.state, *pivot_entry, up) {
+                self.breakpoints.push(Breakpoint {
+                    variable: Variable::Slack(place),
+                    reduced_cost: dual_slack(slack.state, slack.reduced_cost),
+                    pivot_entry: pivot_entry.wrapping_abs(),
                     range: FAR,
                 })?;
             }
@@ -103,13 +104,18 @@ impl Engine {
         Ok(())
     }
 
-    /// The place of the least ratio among the breaks, and of the larger step among equals.
-    fn first_break(&self) -> Option<(usize, Break)> {
-        let mut best: Option<(usize, Break)> = None;
-        for (place, next) in self.breaks.iter().enumerate() {
+    /// The place of the least ratio among the breakpoints, and of the larger entry among equals.
+    fn least_breakpoint(&self) -> Option<(usize, Breakpoint)> {
+        let mut best: Option<(usize, Breakpoint)> = None;
+        for (place, next) in self.breakpoints.iter().enumerate() {
             let better = match best {
                 None => true,
-                Some((_, old)) => is_less_ratio(next.reduced, next.step, old.reduced, old.step),
+                Some((_, old)) => is_less_ratio(
+                    next.reduced_cost,
+                    next.pivot_entry,
+                    old.reduced_cost,
+                    old.pivot_entry,
+                ),
             };
             if better {
                 best = Some((place, *next));
@@ -118,34 +124,37 @@ impl Engine {
         best
     }
 
-    /// The variable that enters for a line with a miss, and in `flips` the columns that change bounds before it.
-    pub(super) fn entering(&mut self, miss: i64) -> Result<Option<Head>, AllocError> {
-        self.breaks.clear();
+    /// The variable that enters for an infeasibility, and in `flips` the columns that change bounds before it.
+    pub(super) fn ratio_test(
+        &mut self,
+        infeasibility: i64,
+    ) -> Result<Option<Variable>, AllocError> {
+        self.breakpoints.clear();
         self.flips.clear();
-        self.list_columns(miss < 0)?;
-        self.list_slacks(miss < 0)?;
-        let mut slope = miss.wrapping_abs();
-        for _ in 0..self.breaks.len() {
-            let Some((place, next)) = self.first_break() else {
+        self.list_columns(infeasibility < 0)?;
+        self.list_slacks(infeasibility < 0)?;
+        let mut slope = infeasibility.wrapping_abs();
+        for _ in 0..self.breakpoints.len() {
+            let Some((place, next)) = self.least_breakpoint() else {
                 break;
             };
-            slope = slope.wrapping_sub(mul(next.step, next.range));
-            let Head::Column(column) = next.head else {
-                return Ok(Some(next.head));
+            slope = slope.wrapping_sub(mul(next.pivot_entry, next.range));
+            let Variable::Column(column) = next.variable else {
+                return Ok(Some(next.variable));
             };
-            if slope <= SMALL {
-                return Ok(Some(next.head));
+            if slope <= INFEASIBILITY {
+                return Ok(Some(next.variable));
             }
             self.flips.push(column)?;
-            self.drop_break(place);
+            self.drop_breakpoint(place);
         }
         Ok(None)
     }
 
-    /// Takes a break off the list.
-    fn drop_break(&mut self, place: usize) {
-        if let Some(last) = self.breaks.pop() {
-            if let Some(to) = self.breaks.get_mut(place) {
+    /// Takes a breakpoint off the list.
+    fn drop_breakpoint(&mut self, place: usize) {
+        if let Some(last) = self.breakpoints.pop() {
+            if let Some(to) = self.breakpoints.get_mut(place) {
                 *to = last;
             }
         }

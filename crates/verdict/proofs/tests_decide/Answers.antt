@@ -1,8 +1,14 @@
-use Rattle.verdict.proofs.Decisions.{tours_are_decided, canonical_is_decided, tours_from_one_are_decided, proper_is_decided, cuts_are_decided, cliques_are_decided, closed_leaves_are_decided}
+use Rattle.verdict.proofs.Decisions.{tours_are_decided, steps_are_decided, tours_of_instances_are_decided, canonical_is_decided, tours_from_one_are_decided, proper_is_decided, cuts_are_decided, cliques_are_decided, closed_leaves_are_decided}
 use Rattle.verdict.proofs.tests_decide.Goals as goal
 
 pub returns-clause-tours : goal.returns-clause-tours
 returns-clause-tours c = tours_are_decided
+
+pub returns-clause-steps : goal.returns-clause-steps
+returns-clause-steps c = steps_are_decided
+
+pub returns-clause-tours_of_instances : goal.returns-clause-tours_of_instances
+returns-clause-tours_of_instances c = tours_of_instances_are_decided
 
 pub returns-clause-canonical : goal.returns-clause-canonical
 returns-clause-canonical c = canonical_is_decided

@@ -8,12 +8,12 @@ stack_children-requires c = top_is_node c.args.tree.now.nodes c.loop-k.waiting.i
 
 pub loop-k-smaller : goal.loop-k-smaller
 loop-k-smaller c =
-    (walk_steps c.n-n.result c.args.tree.now.nodes c.loop-k.order.items c.loop-k.waiting.items c.pop.new.self.items c.push-in-Some.new.self.items c.stack_children.new.waiting.items c.in-Some.k (tree_of c.args.tree.now.nodes)
+    (walk_steps c.n-n.result c.args.tree.now.fixed c.args.tree.now.nodes c.loop-k.order.items c.loop-k.waiting.items c.pop.new.self.items c.push-in-Some.new.self.items c.stack_children.new.waiting.items c.in-Some.k (tree_of c.args.tree.now.nodes)
     c.n-n.ensures.is_table c.loop-k.invariant.inside c.loop-k.invariant.goes (search rules) (search rules) (search rules)).less
 
 pub loop-k-preserved : goal.loop-k-preserved
 loop-k-preserved c =
-    let s = walk_steps c.n-n.result c.args.tree.now.nodes c.loop-k.order.items c.loop-k.waiting.items c.pop.new.self.items c.push-in-Some.new.self.items c.stack_children.new.waiting.items c.in-Some.k (tree_of c.args.tree.now.nodes)
+    let s = walk_steps c.n-n.result c.args.tree.now.fixed c.args.tree.now.nodes c.loop-k.order.items c.loop-k.waiting.items c.pop.new.self.items c.push-in-Some.new.self.items c.stack_children.new.waiting.items c.in-Some.k (tree_of c.args.tree.now.nodes)
     c.n-n.ensures.is_table c.loop-k.invariant.inside c.loop-k.invariant.goes (search rules) (search rules) (search rules) in
     record { inside = s.inside; goes = s.goes }
 

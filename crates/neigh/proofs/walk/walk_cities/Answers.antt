@@ -1,45 +1,67 @@
-use Rattle.std.proofs.Common.{◌≡◌, ◌-◌, ◌<◌, ◌++◌, ◌∷◌, [], length, slice_index, sym, ◌∙◌, ap, subst, arith}
+use Rattle.std.proofs.Common.{◌≡◌, ◌+◌, ◌-◌, ◌<◌, ◌++◌, ◌∷◌, [], ℕ, suc, List, length, slice_index, sym, ◌∙◌, ap, subst, arith}
 use Rattle.std.specs.List.{AllByRecursion, range_with_len}
-use Rattle.std.proofs.lemmas.Grind.{get_or_default_zero}
 use Rattle.tspdef.specs.Tours.{AreDistinct}
-use Rattle.tspdef.specs.Instances.{dist}
-use Rattle.neigh.specs.Walk.{nearest_in, walk_on, without}
+use Rattle.neigh.specs.Walk.{without, next_city, walk_on, nearest_walk}
 use Rattle.neigh.proofs.ListLemmas.{below_at}
-use Rattle.neigh.proofs.WalkLemmas.{others_are, remove_without, all_without, distinct_without, walk_more}
+use Rattle.neigh.proofs.WalkLemmas.{range_is_tour, others_are, all_without, distinct_without, walk_more, walk_end}
 use Rattle.neigh.proofs.walk.walk_cities.Goals as goal
 
-pub loop-rest-init : goal.loop-rest-init
-loop-rest-init c =
-    let inst = c.args.instance.now in
-    let many = c.n-n.ensures.instance.many in
-    let few = c.n-n.ensures.instance.few in
-    let o = others_are inst.n many few in
-    let same : c.in_ok-rest.rest.items ≡ range_with_len 1 (inst.n - 1) = grind arith in
-    let size = o.many in
-    let walk : c.push.new.self.items ≡ 0 ∷ [] = grind arith in
-    rw (same, walk) (record {
-      here = omega arith;
+pub leave_out-requires : goal.leave_out-requires
+leave_out-requires c =
+    let i = c.args.instance.now in
+    let same : c.in_ok-rest.rest.items ≡ range_with_len 0 i.n = grind arith in
+    subst AreDistinct (sym same) (range_is_tour i.n c.n-n.ensures.instance.many c.n-n.ensures.instance.few).distinct
+
+pub loop-step-init : goal.loop-step-init
+loop-step-init c =
+    let i = c.args.instance.now in
+    let s = c.start_city-here.result in
+    let below : s < i.n = c.start_city-here.ensures.city in
+    let o = others_are i.n s c.n-n.ensures.instance.many c.n-n.ensures.instance.few below in
+    let all : c.in_ok-rest.rest.items ≡ range_with_len 0 i.n = grind arith in
+    let rest : c.leave_out.new.rest.items ≡ without s (range_with_len 0 i.n) = c.leave_out.ensures ∙ ap (without s) all in
+    let walk : c.push.new.self.items ≡ s ∷ [] = grind arith in
+    rw (rest, walk) (record {
+      here = below;
       below = o.below;
       distinct = o.distinct;
-      walk = ap (λ k. 0 ∷ walk_on inst k 0 (range_with_len 1 (inst.n - 1))) size;
+      walk = ap (λ z. z ∷ walk_on i (i.n - 1) z (without z (range_with_len 0 i.n))) c.start_city-here.ensures.start;
     })
 
-pub loop-rest-preserved : goal.loop-rest-preserved
-loop-rest-preserved c =
-    let inst = c.args.instance.now in
-    let v = c.loop-rest.invariant in
-    let rest = c.loop-rest.rest.items in
-    let place = c.nearest_place-place.result in
-    let next = c.remove-here.result in
-    let within : place < length rest = rw c.deref.ensures.value at c.nearest_place-place.ensures.within in
-    let is : next ≡ slice_index rest place = c.remove-here.ensures.value ∙ get_or_default_zero rest place next within in
-    let nearest : slice_index rest place ≡ nearest_in (dist inst c.loop-rest.here) rest = rw c.deref.ensures.value at c.nearest_place-place.ensures.nearest in
-    let gone : c.remove-here.new.self.items ≡ without next rest = c.remove-here.ensures.items ∙ remove_without rest place v.distinct within ∙ ap (λ z. without z rest) (sym is) in
-    let size : length c.remove-here.new.self.items ≡ length rest - 1 = omega arith in
-    let walk : c.push-in-loop-rest.new.self.items ≡ c.loop-rest.walk.items ++ next ∷ [] = grind arith in
+pub next_city-requires-clause-here : goal.next_city-requires-clause-here
+next_city-requires-clause-here c = c.loop-step.invariant.here
+
+pub next_city-requires-clause-below : goal.next_city-requires-clause-below
+next_city-requires-clause-below c =
+    let i = c.args.instance.now in
+    let rest = c.loop-step.rest.items in
+    subst (λ (xs : List ℕ). (j : ℕ) → j < length xs → slice_index xs j < i.n) (sym c.deref-in-loop-step-2.ensures.value) (λ j h. below_at i.n rest j c.loop-step.invariant.below h)
+
+pub leave_out-requires-in-loop-step : goal.leave_out-requires-in-loop-step
+leave_out-requires-in-loop-step c = c.loop-step.invariant.distinct
+
+pub loop-step-preserved : goal.loop-step-preserved
+loop-step-preserved c =
+    let i = c.args.instance.now in
+    let v = c.loop-step.invariant in
+    let rest = c.loop-step.rest.items in
+    let old = c.loop-step.walk.items in
+    let here = c.loop-step.here in
+    let k = c.loop-step._step in
+    let next = c.in_ok-here.here in
+    let is : next ≡ next_city i here rest = c.in_ok-here.ensures.next ∙ ap (next_city i here) c.deref-in-loop-step-2.ensures.value in
+    let gone : c.leave_out-in-loop-step.new.rest.items ≡ without next rest = c.leave_out-in-loop-step.ensures in
+    let walk : c.push-in-loop-step.new.self.items ≡ old ++ next ∷ [] = grind arith in
+    let left : i.n - k ≡ suc (i.n - (k + 1)) = omega arith in
+    let more = walk_more i here old rest (i.n - k) (i.n - (k + 1)) left v.walk in
     record {
-      here = subst (λ z. z < inst.n) (sym is) (below_at inst.n rest place v.below within);
-      below = subst (AllByRecursion (λ z. z < inst.n)) (sym gone) (all_without _ next rest v.below);
+      here = c.in_ok-here.ensures.city;
+      below = subst (AllByRecursion (λ z. z < i.n)) (sym gone) (all_without _ next rest v.below);
       distinct = subst AreDistinct (sym gone) (distinct_without next rest v.distinct);
-      walk = rw walk (walk_more inst c.loop-rest.here c.loop-rest.walk.items rest c.remove-here.new.self.items next (length rest - 1) (omega arith) (is ∙ nearest) gone size v.walk);
+      walk = rw (walk, gone) (subst (λ z. (old ++ z ∷ []) ++ walk_on i (i.n - (k + 1)) z (without z rest) ≡ nearest_walk i) (sym is) more);
     }
+
+pub returns : goal.returns
+returns c =
+    let i = c.args.instance.now in
+    walk_end i c.loop-step.here (i.n - c.loop-step._step) c.loop-step.walk.items c.loop-step.rest.items (nearest_walk i) (omega arith) c.loop-step.invariant.walk

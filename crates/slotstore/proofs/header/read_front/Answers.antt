@@ -22,5 +22,6 @@ loop-done-preserved g c =
           (where_moved (λ t. take c.in_ok-count.count (c.read_at.new.buf ++ post_of done room front) ≡ take c.in_ok-count.count (drop done (slot_of c.args.slot t).bytes)) _ _ c.loop-done.invariant.told
           (where_both (λ t. take c.in_ok-count.count c.read_at.new.buf ≡ take c.in_ok-count.count (drop done (slot_of c.args.slot t).bytes)) (λ t. Unit {0}) _ (λ t x y. same ∙ x) _ read.bytes (where_all (λ t. Unit {0}) (λ t. tt) _)));
       told = read.told ∙ c.loop-done.invariant.told;
+      past = read.past ∙ c.loop-done.invariant.past;
       faults = omega (arith, read.cause.later, c.loop-done.invariant.faults);
     }

@@ -9,6 +9,7 @@ invariant-loop-done g l = let told = g.L.Slots.told in record {
   size : length l.front ≡ length l.fn.front;
   so_far : WhereTold (λ t. take l.done l.front ≡ take l.done (slot_of l.slot t).bytes) (told l.fn.slots);
   told : told l.slots ≡ told l.fn.slots;
+  past : g.L.Slots.past l.slots ≡ g.L.Slots.past l.fn.slots;
   faults : g.L.Slots.faults l.fn.slots ≤ g.L.Slots.faults l.slots;
 }
 

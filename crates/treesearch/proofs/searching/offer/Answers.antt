@@ -11,7 +11,8 @@ returns-then-length-found-clause-found c =
     let less = c.if-length-found.true in
     record {
       cities = was.cities;
-      is_tour = subst (λ (n : ℕ). IsTour n c.args.tour) c.requires.cities c.cities-whole.ensures.whole.is_tour;
+      fixed = was.fixed;
+      is_tour = c.requires.is_tour;
       long = c.length-length.ensures;
       shorter = omega arith;
       sound = (c.tables_are_sound.ensures.less i c.args.found.now.length c.length-length.result (tree_of c.args.found.now.tree.nodes) (omega arith)).sound was.sound;

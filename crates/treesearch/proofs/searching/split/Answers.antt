@@ -17,9 +17,11 @@ returns-clause-found c =
     let was = c.requires.found in
     let r = c.in_ok-reserve.ensures.ok in
     let n : i.n ≡ c.reserve.new.self.n = sym (ap (λ (x : Table). x.n) r ∙ was.cities) in
-    let kept = c.split.ensures.keeps i old.length n in
+    let fixed : i.fixed ≡ c.reserve.new.self.fixed = sym (ap (λ (x : Table). x.fixed) r ∙ was.fixed) in
+    let kept = c.split.ensures.keeps i old.length n fixed in
     record {
       cities = ap (λ (x : Table). x.n) c.split.ensures.table ∙ sym n;
+      fixed = ap (λ (x : Table). x.fixed) c.split.ensures.table ∙ sym fixed;
       is_tour = was.is_tour;
       long = was.long;
       shorter = was.shorter;
@@ -32,8 +34,8 @@ returns-clause-settled c =
     let old = c.args.found.now in
     let was = c.requires.found in
     let t = table c in
-    let is_table : IsTable i.n old.tree.nodes = subst (λ (n : ℕ). IsTable n old.tree.nodes) (c.n-n.ensures.value ∙ was.cities) c.n-n.ensures.is_table in
-    let grown = c.tables_grow.ensures.splitting i.n old.tree.nodes c.args.node (branch_of c.args.branch) is_table c.requires.node c.requires.branch in
+    let is_table : IsTable i.n old.tree.fixed old.tree.nodes = subst (λ (n : ℕ). IsTable n old.tree.fixed old.tree.nodes) (c.n-n.ensures.value ∙ was.cities) c.n-n.ensures.is_table in
+    let grown = c.tables_grow.ensures.splitting i.n old.tree.fixed old.tree.nodes c.args.node (branch_of c.args.branch) is_table c.requires.node c.requires.branch in
     let counted : length (split_at old.tree.nodes c.args.node (branch_of c.args.branch)) ≡ length old.tree.nodes + 2 = length-append _ _ ∙ ap (λ (k : ℕ). k + 2) (length-set old.tree.nodes c.args.node _) in
     record {
       settled = ap (λ (x : List Node). settled (tree_of x)) t ∙ grown.settled_now;

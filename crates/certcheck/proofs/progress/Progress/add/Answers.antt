@@ -4,14 +4,20 @@ use Rattle.std.proofs.lemmas.List.{map-append}
 use Rattle.certcheck.proofs.StepLemmas.{all-push}
 use Rattle.tspdef.specs.Cuts.{IsCut}
 use Rattle.certdef.specs.Proofs.{Listed}
+use Rattle.certdef.specs.Tests.{verifier}
 use Rattle.certdef.specs.Verdicts as spec
 use Rattle.certtests.specs.Listed.{listed}
+use Rattle.certcheck.specs.Stages.{Goes}
 use Rattle.certcheck.proofs.progress.Progress.add.Goals as goal
+
+pub cuts_on-requires : goal.cuts_on-requires
+cuts_on-requires c =
+    let i = c.args.instance.now in
+    record { path = c.requires.of.path; cuts = subst (AllByRecursion (IsCut i.n)) (sym c.in_ok-push.ensures.items) (all-push (IsCut i.n) c.args.self.now.cuts.items c.args.cut c.requires.of.cuts c.requires.cut) }
 
 pub returns : goal.returns
 returns c =
     let s = c.args.self.now in
-    let items = c.in_ok-push.ensures.items in (
-      ap spec.go (sym (c.cuts_on.ensures.stage ∙ ap (λ (xs : List Listed). spec.cuts_on (record { long = s.long; cuts = xs }) c.args.left) (ap (map listed) items ∙ map-append listed s.cuts.items (c.args.cut ∷ [])))),
-      c.cuts_on.ensures.stands c.args.n (record { path = c.requires.of.path; cuts = subst (AllByRecursion (IsCut c.args.n)) (sym items) (all-push (IsCut c.args.n) s.cuts.items c.args.cut c.requires.of.cuts c.requires.cut) }),
-    )
+    let i = c.args.instance.now in
+    subst (λ (xs : List Listed). Goes i.n c.cuts_on.result c.cuts_on.new.self (spec.go (spec.cuts_on (verifier i) (record { long = s.long; cuts = xs }) c.args.left)))
+    (ap (map listed) c.in_ok-push.ensures.items ∙ map-append listed s.cuts.items (c.args.cut ∷ [])) c.cuts_on.ensures

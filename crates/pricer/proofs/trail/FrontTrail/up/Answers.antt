@@ -10,5 +10,5 @@ returns-clause-conditions c =
     let same = c.conditions.ensures.value in
     let long : length conds ≡ length c.args.self.path.now.conditions = sym (length-map conds cond.condition_of) ∙ ap length same in
     let within = c.args.self.within in
-    let last = take_last cond.condition_of conds c.args.self.depth (c.args.self.depth - 1) c.index-conditions-depth.result (omega arith) (omega arith) c.index-conditions-depth.is in
+    let last = take_last cond.condition_of conds c.args.self.count (c.args.self.count - 1) c.index-conditions-count.result (omega arith) (omega arith) c.index-conditions-count.is in
     rw (c.step_of-step.ensures, ← same) last

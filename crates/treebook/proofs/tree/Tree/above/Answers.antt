@@ -13,7 +13,7 @@ index-requires-2 c =
     let same = ap length view in
     let within = c.requires in
     let ok = c.self.inside.nodes.ok.0 in
-    let behind = (reads_above c.self.inside.n c.self.inside.nodes.items c.args.node c.index.result.now c.self.invariant.is_table c.if-node-eq0.false (omega arith) c.index.ensures).behind in
+    let behind = (reads_above c.self.inside.n c.self.inside.fixed.items c.self.inside.nodes.items c.args.node c.index.result.now c.self.invariant.is_table c.if-node-eq0.false (omega arith) c.index.ensures).behind in
     omega arith
 
 pub condition_under-requires : goal.condition_under-requires
@@ -22,7 +22,7 @@ condition_under-requires c =
     let len = length-map c.self.inside.nodes.items node_of in
     let same = ap length view in
     let within = c.requires in
-    (reads_above c.self.inside.n c.self.inside.nodes.items c.args.node c.index.result.now c.self.invariant.is_table c.if-node-eq0.false (omega arith) c.index.ensures).child c.index-2.result.now c.index-2.ensures
+    (reads_above c.self.inside.n c.self.inside.fixed.items c.self.inside.nodes.items c.args.node c.index.result.now c.self.invariant.is_table c.if-node-eq0.false (omega arith) c.index.ensures).child c.index-2.result.now c.index-2.ensures
 
 pub returns-in-Some : goal.returns-in-Some
 returns-in-Some c =
@@ -31,5 +31,5 @@ returns-in-Some c =
     let same = ap length view in
     let within = c.requires in
     subst (λ (ns : List Node). IsAbove ns c.args.node c.index.result.now.parent (condition_of c.in-Some.step)) view
-    (is_above c.self.inside.n c.self.inside.nodes.items c.args.node c.index.result.now c.index-2.result.now (condition_of c.in-Some.step) c.self.invariant.is_table c.if-node-eq0.false (omega arith) c.index.ensures c.index-2.ensures
+    (is_above c.self.inside.n c.self.inside.fixed.items c.self.inside.nodes.items c.args.node c.index.result.now c.index-2.result.now (condition_of c.in-Some.step) c.self.invariant.is_table c.if-node-eq0.false (omega arith) c.index.ensures c.index-2.ensures
     (let e = c.in-Some.ensures in cc))

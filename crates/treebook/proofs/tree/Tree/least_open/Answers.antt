@@ -14,4 +14,4 @@ returns-else-self-len-clause-none c =
     let len = length-map c.self.inside.nodes.items node_of in
     let whole : c.self.inside.front ≡ length (nodes_of c.self.inside.nodes.items) = omega arith in
     subst (λ (ns : List Node). open_leaves (tree_of ns) ≡ 0) (ap (λ (t : Table). t.nodes) c.self.view_is)
-    (no_leaves c.self.inside.n (nodes_of c.self.inside.nodes.items) c.self.invariant.is_table (subst (NoneOpen (nodes_of c.self.inside.nodes.items) 0) whole front.none_before))
+    (no_leaves c.self.inside.n c.self.inside.fixed.items (nodes_of c.self.inside.nodes.items) c.self.invariant.is_table (subst (NoneOpen (nodes_of c.self.inside.nodes.items) 0) whole front.none_before))

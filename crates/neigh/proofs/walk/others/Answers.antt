@@ -1,6 +1,0 @@
-use Rattle.std.proofs.Common.{◌-◌, refl, arith}
-use Rattle.std.proofs.lemmas.Iterator.{items_from_collect, YieldsList-from_range}
-use Rattle.neigh.proofs.walk.others.Goals as goal
-
-pub returns : goal.returns
-returns c = items_from_collect c.collect.result c.collect.ensures.ran (YieldsList-from_range 1 c.args.n (c.args.n - 1) refl (omega arith))
