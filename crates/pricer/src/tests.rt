@@ -240,14 +240,33 @@ fn closing_with(
     ))
 }
 
-#[test]
-fn misfits_are_told_by_the_least(rt: HostRuntime) -> Result<(), Fail> {
-    let alloc = rt.alloc();
-    let instance = two_triangles(alloc)?;
+/// A path with conditions on sets at depths 1 and 3, and on a pair at depth 2.
+fn path_of_sets(alloc: Global) -> Result<Path, Fail> {
     let mut path = Path::new(alloc, 6);
     twice(&mut path, set(alloc, 6, &[0, 1])?)?;
     absent(&mut path, 0, 1)?;
     twice(&mut path, set(alloc, 6, &[0, 2])?)?;
+    Ok(path)
+}
+
+/// A closing of two subtour cuts, the first with dual 1.
+fn closing_of_two(
+    alloc: Global,
+    first: &[u32],
+    second: &[u32],
+    dual: u64,
+) -> Result<Closing, Fail> {
+    let mut cuts = Vec::new(alloc);
+    cuts.push((subtour(alloc, 6, first)?, 1))?;
+    cuts.push((subtour(alloc, 6, second)?, dual))?;
+    closing_with(alloc, cuts, &[])
+}
+
+#[test]
+fn cuts_have_duals_and_rise(rt: HostRuntime) -> Result<(), Fail> {
+    let alloc = rt.alloc();
+    let instance = two_triangles(alloc)?;
+    let path = path_of_sets(alloc)?;
     for (first, second, dual, want) in [
         ([0, 1], [0, 2], 1, Fit::Fits),
         ([0, 1], [0, 2], 1 << 62, Fit::Fits),
@@ -256,14 +275,17 @@ fn misfits_are_told_by_the_least(rt: HostRuntime) -> Result<(), Fail> {
         ([0, 1], [0, 1], 1, Fit::Misfit(3)),
         ([0, 2], [0, 1], 1, Fit::Misfit(3)),
     ] {
-        let mut cuts = Vec::new(alloc);
-        cuts.push((subtour(alloc, 6, &first)?, 1))?;
-        cuts.push((subtour(alloc, 6, &second)?, dual))?;
-        assert_eq!(rt;
-            fits(&instance, &path, &closing_with(alloc, cuts, &[])?),
-            want
-        );
+        let closing = closing_of_two(alloc, &first, &second, dual)?;
+        assert_eq!(rt; fits(&instance, &path, &closing), want);
     }
+    Ok(())
+}
+
+#[test]
+fn depths_rise_and_name_conditions_on_sets(rt: HostRuntime) -> Result<(), Fail> {
+    let alloc = rt.alloc();
+    let instance = two_triangles(alloc)?;
+    let path = path_of_sets(alloc)?;
     for (conds, want) in [
         ([(1, 1), (3, 1)], Fit::Fits),
         ([(1, 1), (3, 0)], Fit::Misfit(2)),
@@ -276,13 +298,18 @@ fn misfits_are_told_by_the_least(rt: HostRuntime) -> Result<(), Fail> {
         let closing = closing_with(alloc, Vec::new(alloc), &conds)?;
         assert_eq!(rt; fits(&instance, &path, &closing), want);
     }
-    let other = subtour(alloc, 7, &[0, 1])?;
+    Ok(())
+}
+
+#[test]
+fn cities_and_cuts_are_those_of_the_instance(rt: HostRuntime) -> Result<(), Fail> {
+    let alloc = rt.alloc();
+    let instance = two_triangles(alloc)?;
+    let path = Path::new(alloc, 6);
     let mut cuts = Vec::new(alloc);
-    cuts.push((other, 1))?;
-    assert_eq!(rt;
-        fits(&instance, &path, &closing_with(alloc, cuts, &[])?),
-        Fit::Misfit(3)
-    );
+    cuts.push((subtour(alloc, 7, &[0, 1])?, 1))?;
+    let other = closing_with(alloc, cuts, &[])?;
+    assert_eq!(rt; fits(&instance, &path, &other), Fit::Misfit(3));
     let short = Closing::new(vec![in alloc; 0i64; 5]?, Vec::new(alloc), Vec::new(alloc));
     assert_eq!(rt; fits(&instance, &path, &short), Fit::Misfit(1));
     Ok(())
