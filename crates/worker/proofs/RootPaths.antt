@@ -15,3 +15,7 @@ no_cliques (p ∷ ps) = no_cliques ps
 
 pub root_is_bare : (i : Instance) (path : List Condition) → path ≡ root i → cliques path ≡ 0
 root_is_bare i path e = subst (λ (p : List Condition). cliques p ≡ 0) (sym e) (no_cliques i.fixed)
+
+-- where no pair is fixed each path begins at the root
+pub unfixed_begins : (i : Instance) (path : List Condition) → i.fixed ≡ [] → BeginsAt i path
+unfixed_begins i path e = (path, subst (λ (fs : List (ℕ × ℕ)). path ≡ fixed_conditions fs ++ path) (sym e) refl)

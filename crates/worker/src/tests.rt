@@ -52,6 +52,7 @@ fn finds(work: &Work, cities: &[u32]) -> bool {
 }
 
 /// What the plain worker does at a path of four cities, of which no pair is fixed.
+#[tactic(auto, using(crate::proofs::RootPaths::unfixed_begins))]
 fn plain_work(
     rt: &impl Abort,
     alloc: Global,
