@@ -1,5 +1,5 @@
 -- One slot changed, one step after another.
-use Rattle.std.proofs.Common.{◌≡◌, ℕ, ◌==◌, Bool, true, false, cond, List, refl, sym, ap, subst, ◌∙◌, Option, Some, None, Result, Ok, Err, OnOk}
+use Rattle.std.proofs.Common.{◌≡◌, ℕ, ◌==◌, Bool, true, false, cond, List, refl, sym, ap, subst, ◌∙◌, Option, Some, None, Result, Ok, Err, OnOk, OnErr}
 use Rattle.ports.specs.Outside.{BothTell, WhereTold}
 use Rattle.ports.specs.Slots.{kept_slot, SlotsTold, SlotTold, slot_of, with_slot, after_write, ChangesSlot}
 use Rattle.slotstore.specs.Writing.{KeepsOthers, Becomes}
@@ -89,6 +89,15 @@ becomes_as slot f h same t u x = x ∙ ap (λ b. with_slot slot (kept_slot (b)) 
 pub on_ok : {T E : Type 0} (r : Result T E) (P Q : Type 0) → (P → Q) → OnOk r P → OnOk r Q
 on_ok (Ok x) P Q f h = f h
 on_ok (Err e) P Q f h = h
+
+-- and at a failure
+pub on_err : {T E : Type 0} (r : Result T E) (P Q : Type 0) → (P → Q) → OnErr r P → OnErr r Q
+on_err (Ok x) P Q f h = h
+on_err (Err e) P Q f h = f h
+
+pub always_err : {T E : Type 0} (r : Result T E) (P : Type 0) → P → OnErr r P
+always_err (Ok x) P h = tt
+always_err (Err e) P h = h
 
 -- what is told of one moment is told of another where they tell the same
 pub where_moved : (P : SlotsTold → Type 0) (t u : Option SlotsTold) → u ≡ t → WhereTold P u → WhereTold P t

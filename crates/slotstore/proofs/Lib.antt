@@ -9,3 +9,7 @@ pub mod Told
 pub mod Leaving
 pub mod Settling
 pub mod Steps
+pub mod Events
+pub mod Beside
+pub mod Failing
+pub mod Calls

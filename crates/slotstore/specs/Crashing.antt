@@ -40,6 +40,12 @@ pub record IsSettled (t : SlotsTold) : Type 0 where
 abbrev pub settled : SlotsTold → SlotsTold
 settled t = record t { slot0 = kept_slot t.slot0.bytes; slot1 = kept_slot t.slot1.bytes }
 
+-- A call that failed: the path and the count of binds stay, and slots of which a crash left what reads gave are related so.
+pub record Breaks (R : SlotsTold → SlotsTold → Type 0) (old new : SlotsTold) : Type 0 where
+  pub path : new.path ≡ old.path
+  pub binds : new.binds ≡ old.binds
+  pub kept : IsSettled old → R old new
+
 -- bytes that a crash may leave while some are written in a range
 pub record IsStray (from size : ℕ) (old bytes : List ℕ) : Type 0 where
   pub no_shorter : length old ≤ length bytes

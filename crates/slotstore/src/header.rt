@@ -46,8 +46,12 @@ pub(crate) fn is_shut<L: Slots>(slots: &mut L, slot: u8) -> Result<bool, Failed>
     Ok(count > 0 && gate[0] != 1)
 }
 
-// Reads the front of a slot, as far as the slot or the buffer goes, and says how much that is.
-fn read_front<L: Slots>(slots: &mut L, slot: u8, front: &mut [u8]) -> Result<usize, Failed>
+/// Reads the front of a slot, as far as the slot or the buffer goes, and says how much that is.
+pub(crate) fn read_front<L: Slots>(
+    slots: &mut L,
+    slot: u8,
+    front: &mut [u8],
+) -> Result<usize, Failed>
     requires slot { slot < 2 }
     requires size { length front.old ≤ 10 }
     ensures within { IfOk result (λ len. len ≤ length front.old) }
@@ -67,8 +71,8 @@ fn read_front<L: Slots>(slots: &mut L, slot: u8, front: &mut [u8]) -> Result<usi
     Ok(done)
 }
 
-// Where a slot with this front would end, if its gate is open, its number is one and that place can be named.
-fn said_end(front: &[u8]) -> Option<u64>
+/// Where a slot with this front would end, if its gate is open, its number is one and that place can be named.
+pub(crate) fn said_end(front: &[u8]) -> Option<u64>
     requires { length front.now ≤ 10 }
     ensures end { IfSome result (λ end. (length front.now ≡ 10) × (said_end front.now ≡ Some end)) }
     ensures none { result ≡ None → length front.now ≡ 10 → said_end front.now ≡ None }

@@ -2,24 +2,18 @@
 ghost use Rattle.std.specs.Prelude.{◌≡◌, ℕ, ◌-◌, ◌<◌, ◌≤◌, IfOk, IfSome, IsErr};
 ghost use Rattle.std.specs.Option.{option_map_or};
 ghost use Rattle.ports.specs.Outside.{WhereTold, Cause};
-ghost use Rattle.slotstore.specs.Store.{newer_by, target, target_number, next_number};
+ghost use Rattle.slotstore.specs.Standing.{IsNext};
+ghost use Rattle.slotstore.specs.Store.{newer_by, target, target_number};
 ghost use Rattle.slotstore.specs.Writing.{number_by};
 
 use crate::header::valid_number;
+use crate::target::{Target, next_number};
 use ports::{Failed, Slots};
-
-/// A slot, and the number that it is to get.
-#[derive(Clone, Copy)]
-pub(crate) struct Target {
-    pub(crate) slot: u8,
-    pub(crate) number: u8,
-}
 
 /// The slot that a save writes, and its number.
 pub(crate) fn choose<L: Slots>(slots: &mut L) -> Result<Target, Failed>
     ensures slot { IfOk result (λ r. WhereTold (λ t. r.slot ≡ target t) (L.told slots.old)) }
     ensures number { IfOk result (λ r. WhereTold (λ t. r.number ≡ target_number t) (L.told slots.old)) }
-    ensures is_slot { IfOk result (λ r. r.slot < 2) }
     ensures told { L.told slots.new ≡ L.told slots.old }
     ensures past { L.past slots.new ≡ L.past slots.old }
     ensures cause { Cause (IsErr result) (L.faults slots.old) (L.faults slots.new) }
@@ -29,13 +23,26 @@ pub(crate) fn choose<L: Slots>(slots: &mut L) -> Result<Target, Failed>
     Ok(target_by(first, second))
 }
 
+/// The same; where that is kept already, nothing is read.
+pub(crate) fn choose_unless<L: Slots>(slots: &mut L, kept: Option<Target>) -> Result<Target, Failed>
+    requires { WhereTold (λ t. IfSome kept (λ next. IsNext next t)) (L.told slots.old) }
+    ensures slot { IfOk result (λ r. WhereTold (λ t. r.slot ≡ target t) (L.told slots.old)) }
+    ensures told { L.told slots.new ≡ L.told slots.old }
+    ensures past { L.past slots.new ≡ L.past slots.old }
+    ensures cause { Cause (IsErr result) (L.faults slots.old) (L.faults slots.new) }
+{
+    match kept {
+        Some(next) => Ok(next),
+        None => choose(slots),
+    }
+}
+
 // The same, by the numbers of the slots that are whole.
 fn target_by(first: Option<u8>, second: Option<u8>) -> Target
     requires first { IfSome first (λ number. number ≤ 2) }
     requires second { IfSome second (λ number. number ≤ 2) }
     ensures slot { result.slot ≡ option_map_or (λ slot. 1 - slot) (newer_by first second) 0 }
     ensures number { result.number ≡ number_by first second }
-    ensures is_slot { result.slot < 2 }
 {
     match (first, second) {
         (None, None) => Target { slot: 0, number: 0 },
@@ -52,12 +59,4 @@ fn target_by(first: Option<u8>, second: Option<u8>) -> Target
             number: next_number(a),
         },
     }
-}
-
-// The number after another.
-fn next_number(number: u8) -> u8
-    requires { number ≤ 2 }
-    ensures { result ≡ next_number number }
-{
-    (number + 1) % 3
 }

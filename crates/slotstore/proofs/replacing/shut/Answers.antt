@@ -1,3 +1,4 @@
+use Rattle.slotstore.proofs.Failing.{unchanged_told}
 use Rattle.slotstore.proofs.Steps.{unshut, shuts}
 use Rattle.slotstore.proofs.replacing.shut.Goals as goal
 
