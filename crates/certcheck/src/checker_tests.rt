@@ -204,8 +204,12 @@ fn in_drawn_pieces(
 ) -> Result<Answer, Fail> {
     let mut checker = Checker::new(alloc, instance);
     let mut rest = text;
-    while !rest.is_empty() {
-        let (piece, more) = rest.split_at(1 + draw.below(rest.len()));
+    for _ in 0..text.len() {
+        if rest.is_empty() {
+            break;
+        }
+        let end = draw.below(rest.len()).saturating_add(1).min(rest.len());
+        let (piece, more) = rest.split_at(end);
         match checker.feed(alloc, piece) {
             Ok(next) => checker = next,
             Err(trouble) => return answer_of(trouble),
