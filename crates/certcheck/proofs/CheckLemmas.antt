@@ -15,21 +15,19 @@ use Rattle.certdef.specs.Bytes.{Reading, Read, reads, stops, start, line_on, byt
 use Rattle.certcheck.specs.Answers.{verdict_of, Tells}
 use Rattle.certcheck.specs.declared.answer.Answer.{Answer}
 use Rattle.certcheck.specs.declared.answer.Answer.TheVariants as answers
-use Rattle.certcheck.specs.Readings.{Reads}
-use Rattle.certcheck.specs.declared.reading.Reading as readings
+use Rattle.certcheck.specs.Checkers.{IsRefusalOf}
 use Rattle.certcheck.specs.declared.answer.CheckError.{CheckError}
 use Rattle.certcheck.specs.declared.answer.Trouble.{Trouble}
 use Rattle.certcheck.specs.declared.answer.Trouble.TheVariants as troubles
-use Rattle.certcheck.proofs.ReadingLemmas.{in_turn}
 
 -- the pieces are the whole
-pub ends_judged : (i : Instance) (c b : List ℕ) (r : Reading) (t u v : Option Told) → BothTell (Takes inlet.Proof c) t u → BothTell (Takes inlet.Proof b) u v → b ≡ [] → WhereTold (IsAtEnd inlet.Proof) u
-    → bytes_on (verifier i) (reads start) c ≡ reads r → WhereTold (λ t. end_of r ≡ verdict i t.proof_in) t
-ends_judged i c b r t u v x y e end h = told t v (takes_all inlet.Proof c b t u v x y e end) where
-  told : (t v : Option Told) → BothTell (TakesAll inlet.Proof c) t v → WhereTold (λ t. end_of r ≡ verdict i t.proof_in) t
+pub ends_judged : (i : Instance) (c b : List ℕ) (w : Verdict) (t u v : Option Told) → BothTell (Takes inlet.Proof c) t u → BothTell (Takes inlet.Proof b) u v → b ≡ [] → WhereTold (IsAtEnd inlet.Proof) u
+    → w ≡ verdict i c → WhereTold (λ t. w ≡ verdict i t.proof_in) t
+ends_judged i c b w t u v x y e end h = told t v (takes_all inlet.Proof c b t u v x y e end) where
+  told : (t v : Option Told) → BothTell (TakesAll inlet.Proof c) t v → WhereTold (λ t. w ≡ verdict i t.proof_in) t
   told None v z = tt
   told (Some t) None z = absurd z
-  told (Some t) (Some v) z = sym (ap (verdict i) z.whole ∙ ap verdict_at_end h)
+  told (Some t) (Some v) z = h ∙ sym (ap (verdict i) z.whole)
 
 -- all was taken
 pub ends_taken : (c b : List ℕ) (t u v : Option Told) → BothTell (Takes inlet.Proof c) t u → BothTell (Takes inlet.Proof b) u v → b ≡ [] → WhereTold (IsAtEnd inlet.Proof) u
@@ -42,24 +40,21 @@ ends_taken c b t u v x y e end = told t v (takes_all inlet.Proof c b t u v x y e
   told (Some t) (Some v) z = ap (λ (w : Told). w.proof_in) z.others
 
 -- a piece is refused
-pub refusal_judged : (i : Instance) (c b : List ℕ) (r : Reading) (k at : ℕ) (t u v : Option Told) → BothTell (Takes inlet.Proof c) t u → BothTell (Takes inlet.Proof b) u v
-    → bytes_on (verifier i) (reads start) c ≡ reads r → bytes_on (verifier i) (reads r) b ≡ stops k at → WhereTold (λ t. no k at ≡ verdict i t.proof_in) t
-refusal_judged i c b r k at t u v x y h e = told t v (takes_more inlet.Proof c b (c ++ b) t u v x y refl) where
-  both : bytes_on (verifier i) (reads start) (c ++ b) ≡ stops k at
-  both = in_turn (verifier i) (reads start) c b (c ++ b) (reads r) refl h ∙ e
-
+pub refusal_judged : (i : Instance) (c b : List ℕ) (k at : ℕ) (t u v : Option Told) → BothTell (Takes inlet.Proof c) t u → BothTell (Takes inlet.Proof b) u v
+    → ((more : List ℕ) → verdict i ((c ++ b) ++ more) ≡ no k at) → WhereTold (λ t. no k at ≡ verdict i t.proof_in) t
+refusal_judged i c b k at t u v x y f = told t v (takes_more inlet.Proof c b (c ++ b) t u v x y refl) where
   told : (t v : Option Told) → BothTell (Takes inlet.Proof (c ++ b)) t v → WhereTold (λ t. no k at ≡ verdict i t.proof_in) t
   told None v z = tt
   told (Some t) None z = absurd z
-  told (Some t) (Some v) z = sym (ap verdict_at_end (in_turn (verifier i) (reads start) (c ++ b) (left inlet.Proof v) t.proof_in (stops k at) z.front both))
+  told (Some t) (Some v) z = sym (ap (verdict i) z.front ∙ f (left inlet.Proof v))
 
 -- a refusal is told, unless there is no memory
-pub refusal_told : (i : Instance) (n : ℕ) (c b : List ℕ) (r : Reading) (trouble : Trouble) (result : Result Answer CheckError) (d : readings.Reading) (t u v : Option Told)
-    → BothTell (Takes inlet.Proof c) t u → BothTell (Takes inlet.Proof b) u v → bytes_on (verifier i) (reads start) c ≡ reads r
-    → Tells trouble result → Reads n (Err trouble) d (bytes_on (verifier i) (reads r) b) → IfOk result (λ a. WhereTold (λ t. verdict_of a ≡ verdict i t.proof_in) t)
-refusal_told i n c b r troubles.NoMemory result d t u v x y h e f = subst (λ s. IfOk s (λ a. WhereTold (λ t. verdict_of a ≡ verdict i t.proof_in) t)) (sym e) tt
-refusal_told i n c b r (troubles.Refused k at) result d t u v x y h e f =
-    subst (λ s. IfOk s (λ a. WhereTold (λ t. verdict_of a ≡ verdict i t.proof_in) t)) (sym e) (refusal_judged i c b r k at t u v x y h f)
+pub refusal_told : (i : Instance) (c b : List ℕ) (trouble : Trouble) (result : Result Answer CheckError) (t u v : Option Told)
+    → BothTell (Takes inlet.Proof c) t u → BothTell (Takes inlet.Proof b) u v → ((more : List ℕ) → IsRefusalOf i trouble ((c ++ b) ++ more))
+    → Tells trouble result → IfOk result (λ a. WhereTold (λ t. verdict_of a ≡ verdict i t.proof_in) t)
+refusal_told i c b troubles.NoMemory result t u v x y f e = subst (λ s. IfOk s (λ a. WhereTold (λ t. verdict_of a ≡ verdict i t.proof_in) t)) (sym e) tt
+refusal_told i c b (troubles.Refused k at) result t u v x y f e =
+    subst (λ s. IfOk s (λ a. WhereTold (λ t. verdict_of a ≡ verdict i t.proof_in) t)) (sym e) (refusal_judged i c b k at t u v x y f)
 
 -- the answer is yes exactly where the verdict is
 yes_of : (a : Answer) (v : Verdict) (l : ℕ) → verdict_of a ≡ v → (a ≡ answers.Yes l) ↔ (v ≡ yes l)

@@ -2,3 +2,4 @@ pub mod Paths
 pub mod Answers
 pub mod Stages
 pub mod Readings
+pub mod Checkers

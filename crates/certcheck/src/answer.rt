@@ -57,11 +57,22 @@ impl From<Failed> for CheckError {
 
 /// Why a text is not read on.
 #[derive(Clone, Copy, Debug, PartialEq, Eq)]
-pub(crate) enum Trouble {
+pub enum Trouble {
     NoMemory,
-    /// The number of the refusal and its line.
+    /// The number of the refusal, from 1 to 10, and its line.
     Refused(u32, u64),
 }
+
+impl fmt::Display for Trouble {
+    fn fmt<W: fmt::Write>(&self, f: &mut fmt::Formatter<W>) -> fmt::Result {
+        match self {
+            Trouble::NoMemory => write!(f, "no memory"),
+            Trouble::Refused(refusal, line) => write!(f, "refusal {refusal} at line {line}"),
+        }
+    }
+}
+
+impl Error for Trouble {}
 
 impl Trouble {
     /// The answer that a refusal is.

@@ -3,13 +3,12 @@ ghost use Rattle.std.specs.Prelude.{◌≡◌, ℕ, ◌+◌, ◌-◌, ◌^◌, �
 ghost use Rattle.ports.specs.Outside.{BothTell, WhereTold, Cause};
 ghost use Rattle.ports.specs.Desk.{TakesFirst};
 ghost use Rattle.certdef.specs.Accepted.{IsAcceptedText};
-ghost use Rattle.certdef.specs.Bytes.{start, verdict};
+ghost use Rattle.certdef.specs.Bytes.{verdict};
 ghost use Rattle.certcheck.specs.Answers.{verdict_of, IsYes, count_taken, HasNoRefusal};
-ghost use Rattle.certcheck.specs.Stages.{Stands};
-ghost use Rattle.certcheck.specs.Readings.{reading_of};
+ghost use Rattle.certcheck.specs.Checkers.{HasRead};
 
 use crate::answer::{Answer, CheckError};
-use crate::reading::Reading;
+use crate::checker::Checker;
 use ports::{Desk, Inlet};
 use std::alloc::Global;
 use tspinst::Instance;
@@ -59,39 +58,36 @@ fn judge<D: Desk>(alloc: Global, instance: &Instance, desk: &mut D) -> Result<An
     ensures same { D.write_faults desk.new ≡ D.write_faults desk.old }
 {
     let mut block = vec![in alloc; 0u8; BLOCK]?;
-    let mut reading = Reading::new(alloc, instance.n());
-    read_through(alloc, instance, desk, &mut block, &mut reading)
+    read_through(alloc, Checker::new(alloc, instance), desk, &mut block)
 }
 
 /// Reads block by block, up to the end or the first refusal.
 fn read_through<D: Desk>(
     alloc: Global,
-    instance: &Instance,
+    mut checker: Checker<'_>,
     desk: &mut D,
     block: &mut [u8],
-    reading: &mut Reading,
 ) -> Result<Answer, CheckError>
     requires room { 0 < length block.old }
     requires piece { length block.old ≤ 65536 }
-    requires start { reading_of reading.old ≡ start }
-    requires stands { Stands instance.now.n reading.old.progress }
-    ensures judged { IfOk result (λ a. WhereTold (λ t. verdict_of a ≡ verdict instance.now t.proof_in) (D.told desk.old)) }
+    requires start { HasRead checker [] }
+    ensures judged { IfOk result (λ a. WhereTold (λ t. verdict_of a ≡ verdict checker.entry.instance t.proof_in) (D.told desk.old)) }
     ensures whole { IfOk result (λ a. IsYes a → BothTell (λ t u. u.proof_in ≡ []) (D.told desk.old) (D.told desk.new)) }
     ensures taken { (k : ℕ) × BothTell (TakesFirst Inlet.Proof k) (D.told desk.old) (D.told desk.new) }
     ensures few { BothTell (λ t u. count_taken t u ≤ 2 ^ 60 + 1) (D.told desk.old) (D.told desk.new) }
-    ensures needed { BothTell (λ t u. HasNoRefusal instance.now (take (count_taken t u - 65536) t.proof_in)) (D.told desk.old) (D.told desk.new) }
+    ensures needed { BothTell (λ t u. HasNoRefusal checker.entry.instance (take (count_taken t u - 65536) t.proof_in)) (D.told desk.old) (D.told desk.new) }
     ensures cause { Cause (IsErrOf result CheckError.Failed) (D.read_faults desk.old) (D.read_faults desk.new) }
     ensures same { D.write_faults desk.new ≡ D.write_faults desk.old }
 {
     loop {
-        let most = reading.wanted(block.len());
+        let most = checker.wanted(block.len());
         let piece = &mut block[..most];
         let count = desk.read(Inlet::Proof, piece)?;
         if count == 0 {
-            return Ok(reading.finish());
+            return Ok(checker.finish());
         }
-        match reading.feed(alloc, instance, &piece[..count]) {
-            Ok(()) => {}
+        match checker.feed(alloc, &piece[..count]) {
+            Ok(next) => checker = next,
             Err(trouble) => return trouble.answer(),
         }
     }

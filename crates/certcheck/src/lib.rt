@@ -5,16 +5,22 @@
 #![tactic(auto)]
 
 mod answer;
+mod checker;
 mod checking;
 mod count;
 mod following;
 mod path;
 mod progress;
 mod reading;
+mod sizes;
 mod trees;
 
-pub use answer::{Answer, CheckError};
+pub use answer::{Answer, CheckError, Trouble};
+pub use checker::Checker;
 pub use checking::check;
+pub use sizes::Sizes;
 
+#[cfg(test)]
+mod checker_tests;
 #[cfg(test)]
 mod tests;

@@ -1,5 +1,5 @@
 //! A text that comes in pieces.
-ghost use Rattle.std.specs.Prelude.{◌≡◌, ◌<◌, ◌≤◌, ◌+◌, ◌^◌, ◌∷◌, [], ◌++◌, true};
+ghost use Rattle.std.specs.Prelude.{◌≡◌, ℕ, ◌<◌, ◌≤◌, ◌+◌, ◌^◌, ◌∷◌, [], ◌++◌, true};
 ghost use Rattle.certdef.specs.Items.{item_of};
 ghost use Rattle.certdef.specs.Tests.{verifier};
 ghost use Rattle.certdef.specs.Verdicts as spec;
@@ -7,10 +7,12 @@ ghost use Rattle.certdef.specs.Bytes.{start, reads, line_on, byte_on, bytes_on, 
 ghost use Rattle.certcheck.specs.Answers.{verdict_of};
 ghost use Rattle.certcheck.specs.Stages.{stage_of, Stands};
 ghost use Rattle.certcheck.specs.Readings.{reading_of, Reads, HasNoLineEnd, HasRoom};
+ghost use Rattle.certcheck.specs.Checkers.{sizes_of};
 
 use crate::answer::{Answer, Trouble};
 use crate::count::Count;
 use crate::progress::{Progress, Stage};
+use crate::sizes::Sizes;
 use memchr::memchr;
 use std::alloc::Global;
 use tspinst::Instance;
@@ -177,6 +179,18 @@ impl Reading {
         match self.progress.stage {
             Stage::End => Answer::Yes(self.progress.long),
             _ => Answer::No(1, self.count.at()),
+        }
+    }
+    /// How much is held.
+    pub(crate) fn sizes(&self) -> Sizes
+        requires { (n : ℕ) × Stands n self.now.progress }
+        ensures { result ≡ sizes_of (reading_of self.now) }
+    {
+        Sizes {
+            depth: self.progress.depth(),
+            cuts: self.progress.cuts(),
+            leaf: self.progress.leaf(),
+            line: self.begun.len(),
         }
     }
 }

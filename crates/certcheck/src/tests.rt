@@ -9,9 +9,9 @@ use std::alloc::{AllocError, Global};
 use std::test::Fail;
 use tspinst::{Instance, from_points};
 
-const HEAD: &str = "TSPCERT 1\nN 4\nLENGTH 40\nTOUR 1 2 3 4\nCUTS 0\n";
+pub(crate) const HEAD: &str = "TSPCERT 1\nN 4\nLENGTH 40\nTOUR 1 2 3 4\nCUTS 0\n";
 
-const DUALS: &str = "L 4 0 0\nP 1 5242880\nP 2 5242880\nP 3 5242880\nP 4 5242880\n";
+pub(crate) const DUALS: &str = "L 4 0 0\nP 1 5242880\nP 2 5242880\nP 3 5242880\nP 4 5242880\n";
 
 const ROOM: Room = Room {
     bytes: 1 << 16,
@@ -20,7 +20,7 @@ const ROOM: Room = Room {
 };
 
 /// The corners of a square of side 10.
-fn square(alloc: Global) -> Result<Instance, Fail> {
+pub(crate) fn square(alloc: Global) -> Result<Instance, Fail> {
     let points = [
         Point::new(0, 0),
         Point::new(10, 0),
