@@ -1,12 +1,12 @@
 -- What a load reads: the slot that a save does not write.
-use Rattle.std.proofs.Common.{◌≡◌, ℕ, ◌+◌, ◌-◌, ◌≤◌, ◌<◌, ◌==◌, nat_le, Bool, true, false, cond, List, length, take, drop, refl, sym, ap, subst, ◌∙◌, arith, Option, Some, None, Result, Ok, Err, IfOk, IfSome}
+use Rattle.std.proofs.Common.{◌≡◌, ℕ, ◌-◌, ◌≤◌, ◌<◌, ◌==◌, nat_le, Bool, true, false, cond, List, length, take, drop, refl, sym, ap, subst, ◌∙◌, arith, Option, Some, None, Result, Ok, Err, IfOk, IfSome}
 use Rattle.std.specs.Prelude.{option_map, ◌↔◌}
 use Rattle.std.specs.Global.{Vec}
 use Rattle.std.specs.Option.{option_map_or}
 use Rattle.std.proofs.lemmas.List.{length-take, length-drop}
 use Rattle.std.proofs.lemmas.Bool.Decides.{nat_tests}
 use Rattle.ports.specs.Outside.{WhereTold}
-use Rattle.ports.specs.Slots.{SlotsTold, SlotTold, slot_of}
+use Rattle.ports.specs.Slots.{SlotsTold, slot_of}
 use Rattle.slotstore.specs.Loads.{HasNoBody, body_to, items_of, valid_body}
 use Rattle.slotstore.specs.Slot.{number, is_valid, body_of}
 use Rattle.slotstore.specs.Standing.{IsNext}

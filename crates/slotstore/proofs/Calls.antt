@@ -5,7 +5,7 @@ use Rattle.std.proofs.lemmas.Bool.{false≢true}
 use Rattle.ports.specs.Outside.{BothTell, WhereTold}
 use Rattle.ports.specs.Slots.{SlotsTold}
 use Rattle.ports.specs.Crash.{Moment, Since, moment_of}
-use Rattle.slotstore.specs.Crashing.{IsSettled, LoadsAs, LoadsAsOr, LoadsOnly, settled}
+use Rattle.slotstore.specs.Crashing.{LoadsAs, LoadsAsOr, LoadsOnly, settled}
 use Rattle.slotstore.specs.Loads.{items_of}
 use Rattle.slotstore.specs.Runs.{Begins, Saves, Does, begun, loads_so, saves_so, point}
 use Rattle.slotstore.specs.Standing.{IsNext}
@@ -14,7 +14,6 @@ use Rattle.slotstore.specs.declared.target.Target.{Target}
 use Rattle.slotstore.proofs.Changes.{both_map}
 use Rattle.slotstore.proofs.Leaving.{Start, by_bytes_is, settled_is, settled_after}
 use Rattle.slotstore.proofs.Loading.{target_saved, number_saved}
-use Rattle.slotstore.proofs.Told.{both_both}
 
 -- where the next save goes, after both slots were synced and read
 pub next_told : (next : Target) (t m u : Option SlotsTold) → BothTell (λ t u. u ≡ settled t) t m → u ≡ m → WhereTold (λ t. next.slot ≡ target t) m → WhereTold (λ t. next.number ≡ target_number t) m

@@ -82,9 +82,6 @@ becomes_then slot f h t u v x y =
     ∙ ap (λ w. with_slot slot second w) x
     ∙ with_slot-twice slot first second t
 
-pub becomes_as : (slot : ℕ) (f h : List ℕ → List ℕ) → ((bytes : List ℕ) → f bytes ≡ h bytes) → (t u : SlotsTold) → Becomes slot f t u → Becomes slot h t u
-becomes_as slot f h same t u x = x ∙ ap (λ b. with_slot slot (kept_slot (b)) t) (same (slot_of slot t).bytes)
-
 -- what holds at a success
 pub on_ok : {T E : Type 0} (r : Result T E) (P Q : Type 0) → (P → Q) → OnOk r P → OnOk r Q
 on_ok (Ok x) P Q f h = f h

@@ -1,12 +1,12 @@
 -- Nothing is lost over lists of calls.
-use Rattle.std.proofs.Common.{◌≡◌, ℕ, List, [], ◌∷◌, ◌++◌, refl, sym, subst, ◌∙◌, inl, inr, ⊎_elim, ◌⊎◌, Option, Some}
+use Rattle.std.proofs.Common.{◌≡◌, ℕ, List, [], ◌∷◌, refl, sym, subst, ◌∙◌, inl, inr, ⊎_elim, ◌⊎◌, Option, Some}
 use Rattle.std.specs.Prelude.{Contains}
 use Rattle.std.proofs.lemmas.List.{append_cancel_right}
 use Rattle.std.proofs.lemmas.List.Elements.{All-contains}
 use Rattle.ports.specs.Slots.{SlotsTold}
 use Rattle.ports.specs.Crash.{Moment, MayLeave, Since, moment_of}
 use Rattle.slotstore.specs.Crashing.{LoadsAs, LoadsAsOr, MayLoad}
-use Rattle.slotstore.specs.Runs.{Point, Call, Begun, NotBegun, Loaded, NotLoaded, Saved, NotSaved, IsMomentOf, Event, Returned, Cut, Crash, Happens, Run, IsLast, NothingIsLost}
+use Rattle.slotstore.specs.Runs.{Point, Begun, NotBegun, Loaded, NotLoaded, Saved, NotSaved, IsMomentOf, Event, Returned, Cut, Crash, Happens, Run, IsLast, NothingIsLost}
 use Rattle.slotstore.specs.Store.{loaded}
 use Rattle.slotstore.proofs.Settling.{stays, here}
 use Rattle.slotstore.proofs.Strays.{reads_image}

@@ -1,12 +1,12 @@
 -- What a call that failed leaves of settled slots, and what stays of all.
-use Rattle.std.proofs.Common.{◌≡◌, ℕ, ◌<◌, ◌==◌, Bool, true, false, cond, List, [], length, get_or, refl, sym, ap, subst, ◌∙◌, arith, Option, Some, None}
+use Rattle.std.proofs.Common.{◌≡◌, ℕ, ◌==◌, Bool, true, false, cond, List, [], refl, sym, ap, subst, ◌∙◌, Option, Some, None}
 use Rattle.std.specs.Prelude.{All}
 use Rattle.std.proofs.lemmas.List.{ext_get_or}
 use Rattle.std.proofs.lemmas.List.Elements.{All-nil}
 use Rattle.ports.specs.Outside.{BothTell, WhereTold}
 use Rattle.ports.specs.Slots.{Range, SlotsTold, SlotTold, slot_of, with_slot, kept_slot, after_sync, IsOutside, IsScrambled, ChangesSlot}
 use Rattle.slotstore.specs.Crashing.{Breaks, IsSettled, settled}
-use Rattle.slotstore.specs.Store.{target, target_number, ChangesTarget, after_save}
+use Rattle.slotstore.specs.Store.{target, ChangesTarget, after_save}
 use Rattle.slotstore.specs.Writing.{KeepsOthers}
 use Rattle.slotstore.specs.Standing.{IsNext}
 use Rattle.slotstore.specs.declared.target.Target.{Target}

@@ -1,5 +1,5 @@
 -- What is loaded after a save.
-use Rattle.std.proofs.Common.{◌≡◌, ℕ, ◌+◌, ◌-◌, ◌^◌, ◌≤◌, ◌<◌, ◌==◌, suc, Bool, true, false, cond, List, ◌∷◌, ◌++◌, length, take, drop, refl, sym, ap, subst, ◌∙◌, append_assoc, length-append, arith, Option, Some, None}
+use Rattle.std.proofs.Common.{◌≡◌, ℕ, ◌+◌, ◌-◌, ◌^◌, ◌≤◌, ◌<◌, ◌==◌, suc, Bool, true, false, cond, List, ◌∷◌, ◌++◌, length, take, drop, refl, sym, ap, ◌∙◌, append_assoc, length-append, arith, Option, Some, None}
 use Rattle.std.specs.Prelude.{option_map}
 use Rattle.std.proofs.lemmas.List.{take_at, drop_at}
 use Rattle.std.proofs.lemmas.Bool.Decides.{nat_tests}
@@ -10,7 +10,6 @@ use Rattle.ports.specs.Outside.{BothTell, WhereTold}
 use Rattle.ports.specs.Slots.{kept_slot, SlotsTold, SlotTold, slot_of, with_slot}
 use Rattle.slotstore.specs.Slot.{number, body_length, is_valid, body_of, label, whole_slot}
 use Rattle.slotstore.specs.Store.{valid_number, next_number, newer_by, newer, loaded, target, target_number, after_save}
-use Rattle.slotstore.specs.Writing.{Becomes}
 use Rattle.slotstore.proofs.Changes.{slot_of-with_slot}
 use Rattle.slotstore.proofs.Written.{label-length}
 
@@ -142,16 +141,3 @@ pub loads_told : (body : List ℕ) (t u : Option SlotsTold) → length body < 2 
 loads_told body t None small x = tt
 loads_told body None (Some u) small x = absurd x
 loads_told body (Some t) (Some u) small x = ap loaded x ∙ loads_saved body t small
-
-pub saved_told : (slot n : ℕ) (body : List ℕ) (t u v : Option SlotsTold) → u ≡ t → WhereTold (λ t. slot ≡ target t) t → WhereTold (λ t. n ≡ target_number t) t
-    → BothTell (Becomes slot (λ b. whole_slot n body ++ drop (10 + length body) b)) u v → BothTell (λ t u. u ≡ after_save body t) t v
-saved_told slot n body t u v same is e x = go t v is e (subst (λ w. BothTell (Becomes slot (λ b. whole_slot n body ++ drop (10 + length body) b)) w v) same x)
-  where
-    go : (t v : Option SlotsTold) → WhereTold (λ t. slot ≡ target t) t → WhereTold (λ t. n ≡ target_number t) t
-        → BothTell (Becomes slot (λ b. whole_slot n body ++ drop (10 + length body) b)) t v → BothTell (λ t u. u ≡ after_save body t) t v
-    go None None is e x = tt
-    go None (Some v) is e x = x
-    go (Some t) None is e x = x
-    go (Some t) (Some v) is e x =
-        x ∙ ap (λ k. with_slot k (kept_slot (whole_slot n body ++ drop (10 + length body) (slot_of k t).bytes)) t) is
-        ∙ ap (λ m. with_slot (target t) (kept_slot (whole_slot m body ++ drop (10 + length body) (slot_of (target t) t).bytes)) t) e

@@ -48,7 +48,3 @@ pub opened : (g n : ℕ) (body old : List ℕ) → with_gate 1 (with_body n body
 opened g n body old =
     let rest = drop (10 + length body) old in
     ap (with_gate 1) (filled_whole g n body old) ∙ gate_is 1 ((g ∷ label n body) ++ (body ++ rest)) ∙ ap (λ s. 1 ∷ s) (sym (append_assoc (label n body) body rest))
-
--- a slot whose gate was shut, that was filled, and whose gate was opened
-pub written_whole : (n : ℕ) (body old : List ℕ) → with_gate 1 (with_body n body (with_gate 0 old)) ≡ whole_slot n body ++ drop (10 + length body) old
-written_whole n body old = ap (λ s. with_gate 1 (with_body n body s)) (gate_is 0 old) ∙ opened 0 n body old

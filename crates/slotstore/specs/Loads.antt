@@ -1,5 +1,5 @@
 -- What a load gives.
-use Rattle.std.specs.Prelude.{◌≡◌, ℕ, ◌-◌, nat_le, Bool, false, List, length, take, drop, Option, Some, None, option_map, if◌then◌else◌}
+use Rattle.std.specs.Prelude.{◌≡◌, ℕ, ◌-◌, nat_le, false, List, length, take, drop, Option, Some, None, option_map, if◌then◌else◌}
 use Rattle.std.specs.Global.{Vec}
 use Rattle.ports.specs.Slots.{SlotsTold}
 use Rattle.slotstore.specs.Slot.{is_valid, body_of}

@@ -1,5 +1,5 @@
 -- Lists of calls of a store on slots that tell, with crashes anywhere, and what the slots may load after them.
-use Rattle.std.specs.Prelude.{◌≡◌, ℕ, ◌⊎◌, List, [], ◌∷◌, ◌++◌, Option, Some, None, Result, Ok, Err, Contains}
+use Rattle.std.specs.Prelude.{◌≡◌, ℕ, ◌⊎◌, List, [], ◌∷◌, ◌++◌, Option, Some, Result, Ok, Err, Contains}
 use Rattle.std.specs.Global.{Vec}
 use Rattle.ports.specs.Slots.{SlotsTold}
 use Rattle.ports.specs.Crash.{Moment, MayLeave, Since, moment_of}

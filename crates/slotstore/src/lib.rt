@@ -3,7 +3,6 @@
 //! - [`Store`] begins on two slots, loads from them and saves to them, so that a crash at any moment leaves the body last saved
 //!   or one handed in since.
 //! - [`nothing_is_lost`] is the law that this holds over every list of such calls, with crashes anywhere.
-//! - [`save`] writes a body to the slot that is not the newer one, so that the newer one stays until the new one is whole.
 //!
 //! A slot is a gate (1 is open), a number from 0 to 2, the body's length in eight bytes, the highest first, and the body.
 //! `specs/Slot.antt` and `specs/Store.antt` say what slots hold and which is the newer, `specs/Crashing.antt` what a crash leaves.
@@ -20,7 +19,6 @@ mod target;
 
 pub use body::LoadError;
 pub use laws::nothing_is_lost;
-pub use saving::save;
 pub use store::Store;
 
 #[cfg(test)]

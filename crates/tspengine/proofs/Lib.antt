@@ -1,6 +1,7 @@
 mod Fronts
 mod Writing
 mod InstanceReads
+mod Storing
 mod Solves
 mod Tours
 mod Benches

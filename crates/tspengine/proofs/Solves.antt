@@ -8,51 +8,72 @@ use Rattle.clap.specs.Walk.{Text}
 use Rattle.tspdef.specs.Instances.{Instance}
 use Rattle.tspdef.specs.Trees.{open_leaves}
 use Rattle.certdef.specs.Accepted.{tree_in}
+use Rattle.ports.specs.Crash.{Moment, Since, moment_of}
 use Rattle.slotstore.specs.Store.{loaded, after_save, ChangesTarget}
+use Rattle.slotstore.specs.Crashing.{Breaks, LoadsAs, LoadsAsOr, LoadsOnly, settled}
+use Rattle.certdef.specs.Proofs.{text}
 use Rattle.tspwords.specs.Program.{instance_word, proof_word, restart_word, budget_of}
 use Rattle.tspwords.specs.Says.{SaysSolve}
 use Rattle.tspwords.specs.declared.words.Solve.{Solve}
 use Rattle.verification.specs.Transfers.{ReadsInstance}
 use Rattle.verification.proofs.Tells.{both_to, both_then, both_same}
-use Rattle.tspengine.specs.Calls.{Call, SlotsMoved}
+use Rattle.tspengine.specs.Calls.{Call, SlotsMoved, SlotsPass}
 use Rattle.tspengine.specs.Steps.{reads, writes, prints, TearsWriting}
 use Rattle.tspengine.specs.Texts.{optimal_text, stopped_text}
 use Rattle.tspengine.specs.Outcomes.{IsProofOf, IsBodyOf}
-use Rattle.tspengine.specs.Solving.{Solves}
+use Rattle.tspengine.specs.Solving.{IsBegun, Solves}
 use Rattle.tspengine.specs.declared.statuses.Status.{Status}
 use Rattle.tspengine.specs.declared.statuses.Status.TheVariants as status
+use Rattle.tspengine.proofs.Storing.{Kept, kept_or_begun, no_moments, begun_slots, begun_moments, broken_begin, bound_moments, broken_save, handed_in}
 use Rattle.tspengine.proofs.InstanceReads.{EndsRefused, bytes_read, read_whole, read_and_printed, read_touches}
 
 -- ---- before a search has ended
 
-pub kept_or_bound : (c : Call) → c.after.slots ≡ c.before.slots → SlotsMoved (λ t u. (u ≡ t) ⊎ (u ≡ with_path (restart_word c.words) t)) c
-kept_or_bound c kept = both_same (λ t u. (u ≡ t) ⊎ (u ≡ with_path (restart_word c.words) t)) (λ (t : SlotsTold). inl refl) c.before.slots c.after.slots kept
-
-pub refused_solve : (s : Status) (c : Call) → EndsRefused s c → Solves s c
-refused_solve s c ends = elim ends [
+pub refused_solve : (s : Status) (c : Call) → c.after.moments ≡ c.before.moments → EndsRefused s c → Solves s c
+refused_solve s c none ends = elim ends [
   | inl (e, x) ↦ inr (inr (inl (e, x)))
   | inr (inl (e, x)) ↦ inr (inr (inr (inr (inl (e, inl x)))))
-  | inr (inr (e, x)) ↦ inr (inr (inr (inr (inr (inr (e, record { desk = x.desk; slots = kept_or_bound c x.slots }))))))
+  | inr (inr (e, x)) ↦ inr (inr (inr (inr (inr (inr (
+    e,
+    record { desk = x.desk; slots = kept_or_begun c x.slots; a_crash_leaves_what_was_there = no_moments c x.slots none },
+  ))))))
 ]
 
-pub unbound_slots : (c : Call) (i : Instance) → BothTell (ReadsInstance (instance_word c.words) i) c.before.desk c.after.desk → c.after.slots ≡ c.before.slots → Solves status.StoreFault c
-unbound_slots c i read kept = inr (inr (inr (inr (inr (inl (
+pub unbound_slots : (c : Call) (i : Instance) → BothTell (ReadsInstance (instance_word c.words) i) c.before.desk c.after.desk → c.after.slots ≡ c.before.slots → c.after.moments ≡ c.before.moments
+    → Solves status.StoreFault c
+unbound_slots c i read kept none = inr (inr (inr (inr (inr (inl (
   refl,
   record {
     instance = i;
     bytes_read = bytes_read (instance_word c.words) i c.before.desk c.after.desk read;
     desk = read_whole (instance_word c.words) i c.before.desk c.after.desk read;
-    slots = both_same (λ t u. (u ≡ t) ⊎ ChangesTarget (with_path (restart_word c.words) t) u) (λ (t : SlotsTold). inl refl) c.before.slots c.after.slots kept;
+    slots = both_same (Kept (restart_word c.words)) (λ (t : SlotsTold). inl refl) c.before.slots c.after.slots kept;
+    nothing_is_lost = inl (no_moments c kept none);
+  },
+))))))
+
+pub begin_failed : (c : Call) (i : Instance) (m : Option SlotsTold) → BothTell (ReadsInstance (instance_word c.words) i) c.before.desk c.after.desk
+    → BothTell (λ t u. u ≡ with_path (restart_word c.words) t) c.before.slots m → BothTell (Breaks (λ t u. u ≡ t)) m c.after.slots
+    → BothTell (λ t u. Since (LoadsAs (moment_of t)) c.before.moments c.after.moments u) m c.after.slots → Solves status.StoreFault c
+begin_failed c i m read bound breaks crash = inr (inr (inr (inr (inr (inl (
+  refl,
+  record {
+    instance = i;
+    bytes_read = bytes_read (instance_word c.words) i c.before.desk c.after.desk read;
+    desk = read_whole (instance_word c.words) i c.before.desk c.after.desk read;
+    slots = broken_begin (restart_word c.words) c.before.slots m c.after.slots bound breaks;
+    nothing_is_lost = inl (bound_moments (restart_word c.words) c.before.moments c.after.moments c.before.slots m c.after.slots bound crash);
   },
 ))))))
 
 pub short_search : (c : Call) (i : Instance) → BothTell (ReadsInstance (instance_word c.words) i) c.before.desk c.after.desk
-    → SlotsMoved (λ t u. u ≡ with_path (restart_word c.words) t) c → Solves status.NoMemory c
-short_search c i read bound = inr (inr (inr (inr (inr (inr (
+    → SlotsMoved (IsBegun (restart_word c.words) c.before.moments c.after.moments) c → Solves status.NoMemory c
+short_search c i read begun = inr (inr (inr (inr (inr (inr (
   refl,
   record {
     desk = read_touches (instance_word c.words) i c.before.desk c.after.desk read;
-    slots = both_to (λ t u. u ≡ with_path (restart_word c.words) t) (λ t u. (u ≡ t) ⊎ (u ≡ with_path (restart_word c.words) t)) (λ t u e. inr e) c.before.slots c.after.slots bound;
+    slots = both_to (IsBegun (restart_word c.words) c.before.moments c.after.moments) (λ t u. (u ≡ t) ⊎ (u ≡ settled (with_path (restart_word c.words) t))) (λ t u x. inr x.settled) c.before.slots c.after.slots begun;
+    a_crash_leaves_what_was_there = begun_moments (restart_word c.words) c.before.moments c.after.moments c.before.slots c.after.slots begun;
   },
 ))))))
 
@@ -79,8 +100,8 @@ read_and_torn path word proof printed i a b c read tears =
 pub optimal_written : (c : Call) (w : Solve) (i : Instance) (proof printed line : List ℕ) (b : Option Told) → SaysSolve c.words w → IsProofOf i w.budget proof printed line
     → BothTell (ReadsInstance (instance_word c.words) i) c.before.desk b
     → BothTell (λ t u. u ≡ prints printed (writes (string_bytes w.proof) proof t)) b c.after.desk
-    → SlotsMoved (λ t u. u ≡ with_path (restart_word c.words) t) c → Solves status.Optimal c
-optimal_written c w i proof printed line b says is read wrote bound =
+    → SlotsMoved (IsBegun (restart_word c.words) c.before.moments c.after.moments) c → Solves status.Optimal c
+optimal_written c w i proof printed line b says is read wrote begun =
     let p = proof_of c.words w i proof printed line says is in
     let at = subst (λ (x : List ℕ). BothTell (λ t u. u ≡ prints printed (writes x proof t)) b c.after.desk) says.proof wrote in
     let of_tour = subst (λ (x : List ℕ). BothTell (λ t u. u ≡ prints x (writes (proof_word c.words) proof t)) b c.after.desk) p.prints at in
@@ -100,15 +121,16 @@ optimal_written c w i proof printed line b says is read wrote bound =
         proof_text = (p.optimal.written, p.optimal.same);
         within_budget = p.optimal.few;
         desk = read_and_written (instance_word c.words) (proof_word c.words) proof (optimal_text p.length p.tour) i c.before.desk b c.after.desk read of_tour;
-        slots = bound;
+        slots = begun_slots (restart_word c.words) c.before.moments c.after.moments c.before.slots c.after.slots begun;
+        a_crash_leaves_what_was_there = begun_moments (restart_word c.words) c.before.moments c.after.moments c.before.slots c.after.slots begun;
       },
     )
 
 pub optimal_torn : (c : Call) (w : Solve) (i : Instance) (proof printed line : List ℕ) (b : Option Told) → SaysSolve c.words w → IsProofOf i w.budget proof printed line
     → BothTell (ReadsInstance (instance_word c.words) i) c.before.desk b
     → BothTell (TearsWriting (string_bytes w.proof) proof printed) b c.after.desk
-    → SlotsMoved (λ t u. u ≡ with_path (restart_word c.words) t) c → Solves status.WriteFault c
-optimal_torn c w i proof printed line b says is read tears bound =
+    → SlotsMoved (IsBegun (restart_word c.words) c.before.moments c.after.moments) c → Solves status.WriteFault c
+optimal_torn c w i proof printed line b says is read tears begun =
     let p = proof_of c.words w i proof printed line says is in
     let at = subst (λ (x : List ℕ). BothTell (TearsWriting x proof printed) b c.after.desk) says.proof tears in
     let of_tour = subst (λ (x : List ℕ). BothTell (TearsWriting (proof_word c.words) proof x) b c.after.desk) p.prints at in
@@ -122,36 +144,48 @@ optimal_torn c w i proof printed line b says is read tears bound =
         bytes_read = bytes_read (instance_word c.words) i c.before.desk b read;
         optimal = p.optimal;
         desk = read_and_torn (instance_word c.words) (proof_word c.words) proof (optimal_text p.length p.tour) i c.before.desk b c.after.desk read of_tour;
-        slots = bound;
+        slots = begun_slots (restart_word c.words) c.before.moments c.after.moments c.before.slots c.after.slots begun;
+        a_crash_leaves_what_was_there = begun_moments (restart_word c.words) c.before.moments c.after.moments c.before.slots c.after.slots begun;
       })),
     )))))
 
-pub save_failed : (c : Call) (i : Instance) (m : Option SlotsTold) → BothTell (ReadsInstance (instance_word c.words) i) c.before.desk c.after.desk
-    → BothTell (λ t u. u ≡ with_path (restart_word c.words) t) c.before.slots m → BothTell ChangesTarget m c.after.slots → Solves status.StoreFault c
-save_failed c i m read bound changes = inr (inr (inr (inr (inr (inl (
-  refl,
-  record {
-    instance = i;
-    bytes_read = bytes_read (instance_word c.words) i c.before.desk c.after.desk read;
-    desk = read_whole (instance_word c.words) i c.before.desk c.after.desk read;
-    slots = both_then (λ t u. u ≡ with_path (restart_word c.words) t) ChangesTarget (λ t u. (u ≡ t) ⊎ ChangesTarget (with_path (restart_word c.words) t) u)
-        (λ t u v e f. inr (subst (λ (x : SlotsTold). ChangesTarget x v) e f)) c.before.slots m c.after.slots bound changes;
-  },
-))))))
-
--- the slots were bound, and then a body was saved
-bound_and_saved : (word body : List ℕ) (a b c : Option SlotsTold) → BothTell (λ t u. u ≡ with_path word t) a b → BothTell (λ t u. u ≡ after_save body t) b c
-    → BothTell (λ t u. u ≡ after_save body (with_path word t)) a c
-bound_and_saved word body a b c bound saved =
-    both_then (λ t u. u ≡ with_path word t) (λ t u. u ≡ after_save body t) (λ t u. u ≡ after_save body (with_path word t))
-    (λ t u v e f. f ∙ ap (after_save body) e) a b c bound saved
-
-pub body_saved : (c : Call) (w : Solve) (i : Instance) (body printed : List ℕ) (b : Option Told) (m : Option SlotsTold) → SaysSolve c.words w → IsBodyOf i w.budget body printed
-    → BothTell (ReadsInstance (instance_word c.words) i) c.before.desk b → BothTell (Adds outlet.Text printed) b c.after.desk
-    → BothTell (λ t u. u ≡ with_path (restart_word c.words) t) c.before.slots m → BothTell (λ t u. u ≡ after_save body t) m c.after.slots
-    → WhereTold (λ t. loaded t ≡ Some body) c.after.slots → Solves status.Stopped c
-body_saved c w i body printed b m says is read adds bound saved loads =
+pub save_failed : (c : Call) (w : Solve) (i : Instance) (body printed : List ℕ) (m : Option SlotsTold) (mid : List Moment) → SaysSolve c.words w → IsBodyOf i w.budget body printed
+    → BothTell (ReadsInstance (instance_word c.words) i) c.before.desk c.after.desk
+    → BothTell (IsBegun (restart_word c.words) c.before.moments mid) c.before.slots m → BothTell (Breaks ChangesTarget) m c.after.slots
+    → BothTell (λ t u. Since (LoadsAsOr (moment_of t) body) mid c.after.moments u) m c.after.slots → Solves status.StoreFault c
+save_failed c w i body printed m mid says is read begun breaks crash =
     let p = body_of c.words w i body printed says is in
+    inr (inr (inr (inr (inr (inl (
+      refl,
+      record {
+        instance = i;
+        bytes_read = bytes_read (instance_word c.words) i c.before.desk c.after.desk read;
+        desk = read_whole (instance_word c.words) i c.before.desk c.after.desk read;
+        slots = broken_save (restart_word c.words) c.before.moments mid c.before.slots m c.after.slots begun breaks;
+        nothing_is_lost = inr (
+          p.body,
+          (
+            p.stopped,
+            subst (λ (x : List ℕ). BothTell (λ t u. Since (LoadsAsOr (moment_of t) x) c.before.moments c.after.moments u) c.before.slots c.after.slots) p.is_text
+                (handed_in (restart_word c.words) body c.before.moments mid c.after.moments c.before.slots m c.after.slots begun crash),
+          ),
+        );
+      },
+    ))))))
+
+-- a body was saved
+pub record IsSaved (c : Call) (body : List ℕ) : Type 0 where
+  pub slots : SlotsMoved (λ t u. u ≡ after_save body (settled (with_path (restart_word c.words) t))) c
+  pub loads : WhereTold (λ t. loaded t ≡ Some body) c.after.slots
+  pub kept : WhereTold (LoadsOnly (Some body)) c.after.slots
+  pub crash : SlotsPass (λ t. LoadsAsOr (moment_of t) body) c
+
+pub body_saved : (c : Call) (w : Solve) (i : Instance) (body printed : List ℕ) (b : Option Told) → SaysSolve c.words w → IsBodyOf i w.budget body printed
+    → BothTell (ReadsInstance (instance_word c.words) i) c.before.desk b → BothTell (Adds outlet.Text printed) b c.after.desk
+    → IsSaved c body → Solves status.Stopped c
+body_saved c w i body printed b says is read adds saved =
+    let p = body_of c.words w i body printed says is in
+    let as_text : IsSaved c (text p.body) = subst (IsSaved c) p.is_text saved in
     let of_body = subst (λ (x : List ℕ). BothTell (Adds outlet.Text x) b c.after.desk) p.prints adds in
     inr (inl (
       refl,
@@ -166,18 +200,19 @@ body_saved c w i body printed b m says is read adds bound saved loads =
         budget_is_settled = p.stopped.settled;
         splits_were_needed = p.stopped.needed;
         desk = read_and_printed (instance_word c.words) (stopped_text p.body.long (open_leaves (tree_in i.n p.body))) i c.before.desk b c.after.desk read of_body;
-        slots = subst (λ (x : List ℕ). BothTell (λ t u. u ≡ after_save x (with_path (restart_word c.words) t)) c.before.slots c.after.slots) p.is_text
-            (bound_and_saved (restart_word c.words) body c.before.slots m c.after.slots bound saved);
-        slots_hold_the_body = subst (λ (x : List ℕ). WhereTold (λ t. loaded t ≡ Some x) c.after.slots) p.is_text loads;
+        slots = as_text.slots;
+        slots_hold_the_body = as_text.loads;
+        each_crash_after_it_leaves_the_body = as_text.kept;
+        a_crash_leaves_what_was_there_or_the_body = as_text.crash;
       },
     ))
 
-pub body_torn : (c : Call) (w : Solve) (i : Instance) (body printed : List ℕ) (k : ℕ) (b : Option Told) (m : Option SlotsTold) → SaysSolve c.words w → IsBodyOf i w.budget body printed
+pub body_torn : (c : Call) (w : Solve) (i : Instance) (body printed : List ℕ) (k : ℕ) (b : Option Told) → SaysSolve c.words w → IsBodyOf i w.budget body printed
     → BothTell (ReadsInstance (instance_word c.words) i) c.before.desk b → BothTell (Adds outlet.Text (take k printed)) b c.after.desk
-    → BothTell (λ t u. u ≡ with_path (restart_word c.words) t) c.before.slots m → BothTell (λ t u. u ≡ after_save body t) m c.after.slots
-    → WhereTold (λ t. loaded t ≡ Some body) c.after.slots → Solves status.WriteFault c
-body_torn c w i body printed k b m says is read adds bound saved loads =
+    → IsSaved c body → Solves status.WriteFault c
+body_torn c w i body printed k b says is read adds saved =
     let p = body_of c.words w i body printed says is in
+    let as_text : IsSaved c (text p.body) = subst (IsSaved c) p.is_text saved in
     let of_body = subst (λ (x : List ℕ). BothTell (Adds outlet.Text (take k x)) b c.after.desk) p.prints adds in
     inr (inr (inr (inr (inl (
       refl,
@@ -188,8 +223,9 @@ body_torn c w i body printed k b m says is read adds bound saved loads =
         bytes_read = bytes_read (instance_word c.words) i c.before.desk b read;
         stopped = p.stopped;
         desk = read_and_printed (instance_word c.words) (take k (stopped_text p.body.long (open_leaves (tree_in i.n p.body)))) i c.before.desk b c.after.desk read of_body;
-        slots = subst (λ (x : List ℕ). BothTell (λ t u. u ≡ after_save x (with_path (restart_word c.words) t)) c.before.slots c.after.slots) p.is_text
-            (bound_and_saved (restart_word c.words) body c.before.slots m c.after.slots bound saved);
-        slots_hold_the_body = subst (λ (x : List ℕ). WhereTold (λ t. loaded t ≡ Some x) c.after.slots) p.is_text loads;
+        slots = as_text.slots;
+        slots_hold_the_body = as_text.loads;
+        each_crash_after_it_leaves_the_body = as_text.kept;
+        a_crash_leaves_what_was_there_or_the_body = as_text.crash;
       })),
     )))))

@@ -4,12 +4,15 @@ use Rattle.clap.specs.Walk.{Text}
 use Rattle.ports.specs.Outside.{BothTell, WhereTold}
 use Rattle.ports.specs.Desk.{Told}
 use Rattle.ports.specs.Slots.{SlotsTold}
+use Rattle.ports.specs.Crash.{Moment, Since}
 use Rattle.verification.specs.Counts.{IsCalm, IsTold}
 
--- the outside at a moment: what the desk and the slots tell, where they tell, and how often a call of theirs has failed
+-- the outside at a moment: what the desk and the slots tell, where they tell, the slots' moments before, the last first, and how
+-- often a call of theirs has failed
 pub record Outside : Type 0 where
   pub desk : Option Told
   pub slots : Option SlotsTold
+  pub moments : List Moment
   pub read_faults : ℕ
   pub write_faults : ℕ
   pub store_faults : ℕ
@@ -46,6 +49,10 @@ SlotsAre change c = SlotsMoved (λ t u. u ≡ change t) c
 abbrev pub SlotsKept : Call → Type 0
 SlotsKept c = c.after.slots ≡ c.before.slots
 
+-- at each moment of the slots since the call began they were so related to what they were
+abbrev pub SlotsPass : (SlotsTold → Moment → Type 0) → Call → Type 0
+SlotsPass R c = SlotsMoved (λ t u. Since (R t) c.before.moments c.after.moments u) c
+
 -- what the slots tell now is so
 abbrev pub SlotsHold : (SlotsTold → Type 0) → Call → Type 0
 SlotsHold P c = WhereTold P c.after.slots
@@ -71,10 +78,10 @@ AreSlotsCalm c = IsCalm c.before.store_faults c.after.store_faults
 abbrev pub on_desk : Option Told → Option Told → Call → Call
 on_desk old new c = record c { before = record c.before { desk = old }; after = record c.after { desk = new } }
 
--- the same call with these slots before and after it
-abbrev pub on_slots : Option SlotsTold → Option SlotsTold → Call → Call
-on_slots old new c = record c { before = record c.before { slots = old }; after = record c.after { slots = new } }
+-- the same call with these slots before and after it, and these moments before each
+abbrev pub on_slots : Option SlotsTold → List Moment → Option SlotsTold → List Moment → Call → Call
+on_slots old past new later c = record c { before = record c.before { slots = old; moments = past }; after = record c.after { slots = new; moments = later } }
 
--- the same call with this desk and these slots after it
-abbrev pub ending_with : Option Told → Option SlotsTold → Call → Call
-ending_with desk slots c = record c { after = record c.after { desk = desk; slots = slots } }
+-- the same call with this desk and these slots after it, and these moments before
+abbrev pub ending_with : Option Told → Option SlotsTold → List Moment → Call → Call
+ending_with desk slots later c = record c { after = record c.after { desk = desk; slots = slots; moments = later } }

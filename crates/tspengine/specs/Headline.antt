@@ -13,14 +13,17 @@ use Rattle.certdef.specs.Restarts.{IsSoundProof}
 use Rattle.opening.specs.Openings.{IsOpeningTour, opening_length}
 use Rattle.tourfmt.specs.Texts.{IsTourText}
 use Rattle.treesearch.specs.Splits.{SplitsAreNeeded}
+use Rattle.ports.specs.Crash.{moment_of}
 use Rattle.slotstore.specs.Store.{loaded, after_save}
+use Rattle.slotstore.specs.Crashing.{LoadsAs, LoadsAsOr, LoadsOnly, settled as synced}
 use Rattle.tspwords.specs.Program.{instance_word, proof_word, restart_word, out_word, budget_of}
-use Rattle.tspengine.specs.Calls.{Call, DeskHad, DeskIs, SlotsAre, SlotsKept, SlotsHold}
+use Rattle.tspengine.specs.Calls.{Call, DeskHad, DeskIs, SlotsAre, SlotsKept, SlotsHold, SlotsPass}
 use Rattle.tspengine.specs.Steps.{reads, writes, prints}
 use Rattle.tspengine.specs.Texts.{optimal_text, length_text, stopped_text}
 use Rattle.tspengine.specs.Drawn.{drawn_by}
 
--- `solve` answers Optimal: no tour of the instance is shorter than the printed one, and the proof of that is written.
+-- `solve` answers Optimal: no tour of the instance is shorter than the printed one, and the proof of that is written. The slots
+-- were synced, and a crash at any moment of the call leaves a body that one at its start could have left.
 pub record Optimal (c : Call) : Type 0 where
   pub instance : Instance
   pub tour : List ℕ
@@ -35,9 +38,11 @@ pub record Optimal (c : Call) : Type 0 where
   pub proof_text : IsTextOf instance proof length value × (from_zero value.tour ≡ tour)
   pub within_budget : settled (tree_in instance.n value) ≤ budget_of c.words
   pub desk : DeskIs (λ t. prints (optimal_text length tour) (writes (proof_word c.words) proof (reads (instance_word c.words) t))) c
-  pub slots : SlotsAre (with_path (restart_word c.words)) c
+  pub slots : SlotsAre (λ t. synced (with_path (restart_word c.words) t)) c
+  pub a_crash_leaves_what_was_there : SlotsPass (λ t. LoadsAs (moment_of t)) c
 
 -- `solve` answers Stopped: the budget is settled and a node is open. The slots hold a body to go on from, and no proof is written.
+-- A crash at any moment of the call leaves a body that one at its start could have left, or that one, and each crash after it that one.
 pub record Stopped (c : Call) : Type 0 where
   pub instance : Instance
   pub body : Proof
@@ -49,8 +54,10 @@ pub record Stopped (c : Call) : Type 0 where
   pub budget_is_settled : settled (tree_in instance.n body) ≡ budget_of c.words
   pub splits_were_needed : SplitsAreNeeded instance (opening_length instance) (tree_in instance.n body)
   pub desk : DeskIs (λ t. prints (stopped_text body.long (open_leaves (tree_in instance.n body))) (reads (instance_word c.words) t)) c
-  pub slots : SlotsAre (λ t. after_save (text body) (with_path (restart_word c.words) t)) c
+  pub slots : SlotsAre (λ t. after_save (text body) (synced (with_path (restart_word c.words) t))) c
   pub slots_hold_the_body : SlotsHold (λ t. loaded t ≡ Some (text body)) c
+  pub each_crash_after_it_leaves_the_body : SlotsHold (LoadsOnly (Some (text body))) c
+  pub a_crash_leaves_what_was_there_or_the_body : SlotsPass (λ t. LoadsAsOr (moment_of t) (text body)) c
 
 -- `tour` answers Toured: a tour is printed that is no longer than the nearest-neighbour walk, and that no exchange of two steps
 -- with a near replacement shortens.

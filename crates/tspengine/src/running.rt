@@ -43,6 +43,7 @@ pub fn run<R, D: Desk, L: Slots>(
       before = record {
         desk = D.told desk.old;
         slots = L.told slots.old;
+        moments = L.past slots.old;
         read_faults = D.read_faults desk.old;
         write_faults = D.write_faults desk.old;
         store_faults = L.faults slots.old;
@@ -50,6 +51,7 @@ pub fn run<R, D: Desk, L: Slots>(
       after = record {
         desk = D.told desk.new;
         slots = L.told slots.new;
+        moments = L.past slots.new;
         read_faults = D.read_faults desk.new;
         write_faults = D.write_faults desk.new;
         store_faults = L.faults slots.new;

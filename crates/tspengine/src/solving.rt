@@ -1,20 +1,20 @@
 //! The command `solve`: a search, and what it found written down.
 ghost use Rattle.std.specs.Prelude.{◌≡◌, ◌≢◌, ◌≤◌};
-ghost use Rattle.ports.specs.Outside.{BothTell, Cause};
-ghost use Rattle.ports.specs.Slots.{with_path};
+ghost use Rattle.ports.specs.Outside.{BothTell, WhereTold, Cause};
+ghost use Rattle.slotstore.specs.Standing.{StandsFor};
 ghost use Rattle.tspdef.specs.Instances as instances;
 ghost use Rattle.tspwords.specs.Program.{instance_word, restart_word};
 ghost use Rattle.tspwords.specs.Says.{SaysSolve};
 ghost use Rattle.verification.specs.Transfers.{ReadsInstance};
 ghost use Rattle.tspengine.specs.Outcomes.{IsOutcome};
 ghost use Rattle.tspengine.specs.Calls.{Call, on_desk, on_slots, ending_with};
-ghost use Rattle.tspengine.specs.Solving.{Solves};
+ghost use Rattle.tspengine.specs.Solving.{IsBegun, Solves};
 
 use crate::outcomes::{Outcome, outcome_of};
 use crate::publishing::{publish, refuse};
 use crate::statuses::Status;
 use ports::{Desk, Outlet, Slots, write_all};
-use slotstore::save;
+use slotstore::Store;
 use std::alloc::Global;
 use tspinst::Instance;
 use tspwords::Solve;
@@ -29,7 +29,7 @@ pub(crate) fn solve<D: Desk, L: Slots>(
 ) -> Status
     requires { words.now.budget ≤ 65536 }
     ensures ends { (c : Call) → SaysSolve c.words words.now
-        → Solves result (on_slots (L.told slots.old) (L.told slots.new) (on_desk (D.told desk.old) (D.told desk.new) c)) }
+        → Solves result (on_slots (L.told slots.old) (L.past slots.old) (L.told slots.new) (L.past slots.new) (on_desk (D.told desk.old) (D.told desk.new) c)) }
     ensures reads { Cause (result ≡ Status.ReadFault) (D.read_faults desk.old) (D.read_faults desk.new) }
     ensures writes { Cause (result ≡ Status.WriteFault) (D.write_faults desk.old) (D.write_faults desk.new) }
     ensures store { Cause (result ≡ Status.StoreFault) (L.faults slots.old) (L.faults slots.new) }
@@ -42,7 +42,7 @@ pub(crate) fn solve<D: Desk, L: Slots>(
     }
 }
 
-/// Binds the slots and searches, the instance being read, and writes down what was found.
+/// Binds the slots, begins the store on them and searches, the instance being read, and writes down what was found.
 fn solve_instance<D: Desk, L: Slots>(
     alloc: Global,
     words: &Solve,
@@ -54,7 +54,8 @@ fn solve_instance<D: Desk, L: Slots>(
     ensures ends { (c : Call) → SaysSolve c.words words.now
         → BothTell (ReadsInstance (instance_word c.words) instance.now) c.before.desk (D.told desk.old)
         → c.before.slots ≡ L.told slots.old
-        → Solves result (ending_with (D.told desk.new) (L.told slots.new) c) }
+        → c.before.moments ≡ L.past slots.old
+        → Solves result (ending_with (D.told desk.new) (L.told slots.new) (L.past slots.new) c) }
     ensures read { result ≢ Status.ReadFault }
     ensures reads { D.read_faults desk.new ≡ D.read_faults desk.old }
     ensures writes { Cause (result ≡ Status.WriteFault) (D.write_faults desk.old) (D.write_faults desk.new) }
@@ -63,8 +64,11 @@ fn solve_instance<D: Desk, L: Slots>(
     if slots.bind(&words.restart).is_err() {
         return Status::StoreFault;
     }
+    let Ok(mut store) = Store::begin(slots) else {
+        return Status::StoreFault;
+    };
     match outcome_of(alloc, instance, words.budget, words.seed) {
-        Ok(outcome) => finish(words, desk, slots, &outcome),
+        Ok(outcome) => finish(words, desk, slots, &mut store, &outcome),
         Err(_) => Status::NoMemory,
     }
 }
@@ -74,12 +78,14 @@ fn finish<D: Desk, L: Slots>(
     words: &Solve,
     desk: &mut D,
     slots: &mut L,
+    store: &mut Store,
     outcome: &Outcome,
 ) -> Status
+    requires { WhereTold (StandsFor store.old) (L.told slots.old) }
     ensures ends { (c : Call) → (i : instances.Instance) → SaysSolve c.words words.now → IsOutcome i words.now.budget outcome.now
         → BothTell (ReadsInstance (instance_word c.words) i) c.before.desk (D.told desk.old)
-        → BothTell (λ t u. u ≡ with_path (restart_word c.words) t) c.before.slots (L.told slots.old)
-        → Solves result (ending_with (D.told desk.new) (L.told slots.new) c) }
+        → BothTell (IsBegun (restart_word c.words) c.before.moments (L.past slots.old)) c.before.slots (L.told slots.old)
+        → Solves result (ending_with (D.told desk.new) (L.told slots.new) (L.past slots.new) c) }
     ensures read { result ≢ Status.ReadFault }
     ensures reads { D.read_faults desk.new ≡ D.read_faults desk.old }
     ensures writes { Cause (result ≡ Status.WriteFault) (D.write_faults desk.old) (D.write_faults desk.new) }
@@ -96,7 +102,7 @@ fn finish<D: Desk, L: Slots>(
             Err(_) => Status::WriteFault,
         },
         Outcome::Stopped { body, printed } => {
-            if save(slots, body).is_err() {
+            if store.save(slots, body).is_err() {
                 return Status::StoreFault;
             }
             match write_all(desk, Outlet::Text, printed) {

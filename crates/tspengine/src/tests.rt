@@ -6,6 +6,7 @@ ghost use Rattle.std.specs.Prelude.{◌<◌};
 use crate::{Status, run};
 use cyc::Tour;
 use ports::{Inlet, MemDesk, MemSlots, Room, SlotCall};
+use slotstore::Store;
 use std::alloc::{AllocError, Global};
 use std::test::Fail;
 use tspgen::make;
@@ -464,8 +465,17 @@ fn a_failing_save_leaves_the_other_slot(rt: HostRuntime) -> Result<(), Fail> {
         assert_eq!(rt; status, Status::StoreFault);
         assert_eq!(rt; slots.slot(0), kept);
         assert_eq!(rt; desk.text(), b"".as_slice());
+        // The gate of the other slot is not open yet, and the body of the first run loads.
+        let body = body_in(alloc, &mut slots);
+        assert_eq!(rt; body.as_ref().map(|body| body.as_slice()), kept.get(10..));
     }
     Ok(())
+}
+
+/// The body that slots hold.
+fn body_in(alloc: Global, slots: &mut MemSlots) -> Option<Vec<u8>> {
+    let store = Store::begin(slots).ok()?;
+    store.load(alloc, slots).ok()?
 }
 
 #[test]
@@ -679,6 +689,20 @@ fn failing_slots_matter_where_they_are_used(rt: HostRuntime) -> Result<(), Fail>
     )?;
     assert_eq!(rt; used.status, Status::StoreFault);
     assert_eq!(rt; used.text(), b"".as_slice());
+    // A first read that fails stands in the way of both.
+    for line in ["tspc solve a b c", "tspc solve a b c --budget 0"] {
+        let unread = run_with(
+            alloc,
+            line,
+            SQUARE,
+            &Faults {
+                bad_slots: &[(SlotCall::Read, 1)],
+                ..NONE
+            },
+        )?;
+        assert_eq!(rt; unread.status, Status::StoreFault);
+        assert_eq!(rt; unread.text(), b"".as_slice());
+    }
     let whole = solved(alloc, "tspc solve a b c --budget 0", SQUARE)?;
     for k in 0..whole.slots.entries().len() {
         let one = [(SlotCall::Any, k as u64 + 1)];

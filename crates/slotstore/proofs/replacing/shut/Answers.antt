@@ -1,4 +1,3 @@
-use Rattle.slotstore.proofs.Failing.{unchanged_told}
 use Rattle.slotstore.proofs.Steps.{unshut, shuts}
 use Rattle.slotstore.proofs.replacing.shut.Goals as goal
 

@@ -5,7 +5,8 @@ use Rattle.verification.specs.Transfers.{ReadsInstance, RefusesInstance, Touches
 use Rattle.verification.specs.Readings.{IsReadingOf}
 use Rattle.tspengine.specs.Calls.{on_desk, on_slots}
 use Rattle.tspengine.proofs.InstanceReads.{refused_ends}
-use Rattle.tspengine.proofs.Solves.{refused_solve, kept_or_bound}
+use Rattle.tspengine.proofs.Solves.{refused_solve}
+use Rattle.tspengine.proofs.Storing.{kept_or_begun, no_moments}
 use Rattle.tspengine.proofs.solving.solve.Goals as goal
 
 pub returns-in-Ok-Instance-clause-ends : goal.returns-in-Ok-Instance-clause-ends
@@ -14,9 +15,10 @@ returns-in-Ok-Instance-clause-ends g c = λ call says.
     let a = g.D.Desk.told c.args.desk.now in
     let b = g.D.Desk.told c.read_instance.new.desk in
     let s = g.L.Slots.told c.args.slots.now in
+    let p = g.L.Slots.past c.args.slots.now in
     let reads = subst (λ (w : List ℕ). BothTell (ReadsInstance w i) a b) (c.deref.ensures ∙ says.instance)
     (subst (λ (x : Reading). BothTell (IsReadingOf c.deref.result.now x) a b) c.in-Ok-Instance.field-0-is c.in-Ok-Instance.ensures.reading) in
-    c.solve_instance.ensures.ends (on_slots s s (on_desk a b call)) says reads refl
+    c.solve_instance.ensures.ends (on_slots s p s p (on_desk a b call)) says reads refl refl
 
 pub returns-in-Ok-Refused-clause-ends : goal.returns-in-Ok-Refused-clause-ends
 returns-in-Ok-Refused-clause-ends g c = λ call says.
@@ -25,10 +27,11 @@ returns-in-Ok-Refused-clause-ends g c = λ call says.
     let b = g.D.Desk.told c.read_instance.new.desk in
     let d = g.D.Desk.told c.refuse.new.desk in
     let s = g.L.Slots.told c.args.slots.now in
-    let here = on_slots s s (on_desk a d call) in
+    let p = g.L.Slots.past c.args.slots.now in
+    let here = on_slots s p s p (on_desk a d call) in
     let refuses = subst (λ (w : List ℕ). BothTell (RefusesInstance w r) a b) (c.deref.ensures ∙ says.instance)
     (subst (λ (x : Reading). BothTell (IsReadingOf c.deref.result.now x) a b) c.in-Ok-Refused.field-0-is c.in-Ok-Refused.ensures.reading) in
-    refused_solve c.refuse.result here (refused_ends c.refuse.result here r b refl refuses
+    refused_solve c.refuse.result here refl (refused_ends c.refuse.result here r b refl refuses
     c.refuse.ensures.status c.refuse.ensures.refused c.refuse.ensures.torn c.refuse.ensures.silent)
 
 pub returns-in-Err-Failed-clause-ends : goal.returns-in-Err-Failed-clause-ends
@@ -36,6 +39,7 @@ returns-in-Err-Failed-clause-ends g c = λ call says.
     let a = g.D.Desk.told c.args.desk.now in
     let b = g.D.Desk.told c.read_instance.new.desk in
     let s = g.L.Slots.told c.args.slots.now in
+    let p = g.L.Slots.past c.args.slots.now in
     let touches = subst (λ (w : List ℕ). BothTell (TouchesInstance w) a b) (c.deref.ensures ∙ says.instance) c.in-Err-Failed.ensures.unread in
     inr (inr (inr (inl (refl, record { desk = touches; slots = refl {a = s} }))))
 
@@ -44,5 +48,7 @@ returns-in-Err-NoMemory-clause-ends g c = λ call says.
     let a = g.D.Desk.told c.args.desk.now in
     let b = g.D.Desk.told c.read_instance.new.desk in
     let s = g.L.Slots.told c.args.slots.now in
+    let p = g.L.Slots.past c.args.slots.now in
     let touches = subst (λ (w : List ℕ). BothTell (TouchesInstance w) a b) (c.deref.ensures ∙ says.instance) c.in-Err-NoMemory.ensures.unread in
-    inr (inr (inr (inr (inr (inr (refl, record { desk = touches; slots = kept_or_bound (on_slots s s (on_desk a b call)) refl }))))))
+    let here = on_slots s p s p (on_desk a b call) in
+    inr (inr (inr (inr (inr (inr (refl, record { desk = touches; slots = kept_or_begun here refl; a_crash_leaves_what_was_there = no_moments here refl refl }))))))
