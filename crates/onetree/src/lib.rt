@@ -1,0 +1,13 @@
+//! One-trees, and the lower bound that they give (Held and Karp 1970).
+//!
+//! - [`least_tree`] gives a one-tree for some duals than which no one-tree is lighter.
+//! - [`tours_are_one_trees`]: the law that the bound rests on.
+#![tactic(auto)]
+
+mod cost;
+mod frontier;
+mod laws;
+mod tree;
+
+pub use laws::tours_are_one_trees;
+pub use tree::{OneTree, least_tree};
