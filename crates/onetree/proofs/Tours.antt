@@ -1,16 +1,17 @@
-use Rattle.std.proofs.Common.{◌≡◌, ℕ, ◌+◌, ◌*◌, ◌<◌, ◌≤◌, Bool, true, false, cond, eqb, not, ◌||◌, ◌&&◌, List, [], ◌∷◌, length, refl, sym, ◌∙◌, ap, arith, ⊎_elim}
+use Rattle.std.proofs.Common.{◌≡◌, ℕ, ◌+◌, ◌*◌, ◌<◌, ◌≤◌, Bool, true, false, cond, eqb, not, ◌||◌, ◌&&◌, List, [], ◌∷◌, length, refl, sym, ◌∙◌, ap, arith, add-one, ⊎_elim}
 use Rattle.std.specs.Prelude.{ℤ, pos, ◌+ℤ◌}
 use Rattle.std.specs.List.{AllByRecursion}
 use Rattle.std.proofs.lemmas.Int.{ints}
 use Rattle.std.proofs.lemmas.Bool.{cases_Bool, cases_eq, cond-true, cond-false, eq-eqb, ne_eqb, eqb-true, or_parts, and_parts, false_from_ne_true}
 use Rattle.tspdef.specs.Tours.{joins, walk, steps, crosses, crossings, IsTour, has_step, travelled}
+use Rattle.tspdef.specs.Sums.{sum_below}
 use Rattle.tspdef.specs.Instances.{Instance, dist}
 use Rattle.tspdef.specs.Bounds.{scale}
 use Rattle.tspdef.proofs.SumLemmas.{sum_below-at}
 use Rattle.tspdef.proofs.Steps.{sum_steps, AreDistinctSteps, AreWithin, has_step_at, tour_steps_distinct, tour_steps_within, tour_has, tour_ends}
 use Rattle.tspdef.proofs.CrossingLemmas.{tour_crosses}
 use Rattle.onetree.specs.OneTrees.{is_end, degree, times_joined, elsewhere, IsPair, Connects, weight, dual_of, reduced}
-use Rattle.onetree.specs.Laws.{ToursAreOneTrees, ToursMeetTwice, HeldKarpIsBelow, HeldKarpIsOne}
+use Rattle.onetree.specs.Laws.{ToursAreOneTrees, ToursMeetTwice, HeldKarpIsBelow, NoTourIsShorter, HeldKarpIsOne}
 
 -- ---- the steps of a tour are pairs, and n of them
 
@@ -156,3 +157,11 @@ held_karp_is_one i p h k (w, (one, low), is) (x, (other, below), so) =
     let e = one.2 in
     let f = other.2 in
     omega (arith, ints)
+
+pub no_tour_is_shorter : NoTourIsShorter
+no_tour_is_shorter i p h b tour many t is l = let low = held_karp_is_below i p h tour many t is in omega (arith, ints)
+
+-- ---- sums of duals
+
+pub sum_more : (f : ℕ → ℤ) (k : ℕ) → sum_below f (k + 1) ≡ sum_below f k +ℤ f k
+sum_more f k = rw add-one refl

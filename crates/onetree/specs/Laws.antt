@@ -1,8 +1,8 @@
 -- What the bound rests on.
-use Rattle.std.specs.Prelude.{◌≡◌, ℕ, ◌*◌, ◌<◌, ◌≤◌, List, ℤ, pos, ◌≤ℤ◌}
+use Rattle.std.specs.Prelude.{◌≡◌, ℕ, ◌*◌, ◌<◌, ◌≤◌, List, ℤ, pos, ◌≤ℤ◌, ◌<ℤ◌}
 use Rattle.tspdef.specs.Tours.{IsTour, steps}
 use Rattle.tspdef.specs.Instances.{Instance, IsTourOf, length_in}
-use Rattle.tspdef.specs.Bounds.{scale}
+use Rattle.tspdef.specs.Bounds.{scale, needed}
 use Rattle.onetree.specs.OneTrees.{IsOneTree, degree, IsHeldKarp}
 
 -- A tour is a one-tree.
@@ -17,6 +17,11 @@ ToursMeetTwice = (n : ℕ) (tour : List ℕ) (c : ℕ) → 3 ≤ n → IsTour n 
 abbrev pub HeldKarpIsBelow : Type 0
 HeldKarpIsBelow = (i : Instance) (p : List ℤ) (h : ℤ) (tour : List ℕ) → 3 ≤ i.n → IsTourOf i tour → IsHeldKarp i p h
     → h ≤ℤ pos (scale * length_in i tour)
+
+-- No tour is shorter than a length b where the value of some duals exceeds the units of length b - 1.
+abbrev pub NoTourIsShorter : Type 0
+NoTourIsShorter = (i : Instance) (p : List ℤ) (h : ℤ) (b : ℕ) (tour : List ℕ) → 3 ≤ i.n → IsTourOf i tour → IsHeldKarp i p h → needed b <ℤ h
+    → b ≤ length_in i tour
 
 -- Some duals have one Held-Karp value at most.
 abbrev pub HeldKarpIsOne : Type 0

@@ -12,3 +12,6 @@ returns-clause-below c = lemmas.held_karp_is_below
 
 pub returns-clause-one : goal.returns-clause-one
 returns-clause-one c = lemmas.held_karp_is_one
+
+pub returns-clause-shorter : goal.returns-clause-shorter
+returns-clause-shorter c = lemmas.no_tour_is_shorter
