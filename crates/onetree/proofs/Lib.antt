@@ -1,0 +1,4 @@
+pub mod Tours
+pub mod Exchange
+pub mod Growing
+pub mod Home

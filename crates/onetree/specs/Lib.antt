@@ -1,0 +1,3 @@
+pub mod OneTrees
+pub mod Laws
+pub mod Growing
