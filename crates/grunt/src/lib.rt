@@ -9,6 +9,7 @@ mod efforts;
 mod light;
 mod missed;
 mod offers;
+mod proposals;
 mod reasons;
 mod rounds;
 mod splits;

@@ -8,8 +8,10 @@ ghost use Rattle.grunt.specs.Whys.{MissesNone, LacksNothing};
 ghost use Rattle.grunt.specs.Rounds.{IsReady, IsLook, HasGrown, HasEnded};
 
 use crate::missed::missed_cuts;
+use crate::proposals::handles_of;
 use branchx::Path;
 use cutform::Cut;
+use cyc::CitySet;
 use nodelp::NodeLp;
 use pricer::{Closing, bound, needed};
 use simplex::{Lp, LpAnswer};
@@ -99,7 +101,8 @@ fn grow(
     ensures same { IfOk result (λ more. more ≡ false → node.new ≡ node.old) }
     ensures full { IfOk result (λ more. more ≡ false → LacksNothing instance.now path.now.conditions node.old.program) }
 {
-    let cuts = newly_missed(alloc, node.lp())?;
+    let known = handles_of(alloc, node.cuts())?;
+    let cuts = newly_missed(alloc, instance, node.lp(), &known)?;
     if cuts.is_empty() {
         return node.add_negative(alloc, instance, path);
     }
@@ -108,8 +111,14 @@ fn grow(
 }
 
 /// Cuts that the newest values miss by 2^10 units or more, if the newest answer is Solved: none only where they miss no cut
-/// of the separations.
-fn newly_missed(alloc: Global, lp: &Lp) -> Result<Vec<Cut>, AllocError>
+/// of the separations. Handles that are known are tried too.
+fn newly_missed(
+    alloc: Global,
+    instance: &Instance,
+    lp: &Lp,
+    known: &[CitySet],
+) -> Result<Vec<Cut>, AllocError>
+    requires cities { lp.now.n ≡ instance.now.n }
     requires clean { IsClean lp.now }
     ensures cuts { IfOk result (λ cuts. All (IsCut lp.now.n) cuts.items) }
     ensures missed { IfOk result (λ cuts. All (IsMissed lp.now) cuts.items) }
@@ -118,7 +127,7 @@ fn newly_missed(alloc: Global, lp: &Lp) -> Result<Vec<Cut>, AllocError>
     ensures none { IfOk result (λ cuts. length cuts.items ≡ 0 → MissesNone lp.now.last) }
 {
     match lp.last() {
-        Some(LpAnswer::Solved { x, .. }) => missed_cuts(alloc, x),
+        Some(LpAnswer::Solved { x, .. }) => missed_cuts(alloc, instance, x, known),
         _ => Ok(Vec::new(alloc)),
     }
 }
