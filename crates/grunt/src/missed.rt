@@ -51,10 +51,17 @@ fn or_candidates(alloc: Global, x: &Frac, cuts: Vec<Cut>) -> Result<Vec<Cut>, Al
     if !cuts.is_empty() {
         return Ok(cuts);
     }
-    let mut flowers = blossoms(alloc, x)?;
+    candidates(alloc, x)
+}
+
+/// The blossoms, and the combs after them.
+fn candidates(alloc: Global, x: &Frac) -> Result<Vec<Cut>, AllocError>
+    ensures worth { IfOk result (λ found. All (IsWorth x.now) found.items) }
+    ensures blossoms { IfOk result (λ found. length found.items ≡ 0 → AreBlossoms x.now []) }
+    ensures combs { IfOk result (λ found. length found.items ≡ 0 → AreCombs x.now []) }
+{
+    let mut found = blossoms(alloc, x)?;
     let mut grown = combs(alloc, x)?;
-    let mut found = cuts;
-    found.append(&mut flowers)?;
     found.append(&mut grown)?;
     Ok(found)
 }
