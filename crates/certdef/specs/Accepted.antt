@@ -1,23 +1,28 @@
 -- Which values are of the grammar, and which of them are proofs for an instance.
-use Rattle.std.specs.Prelude.{◌≡◌, ℕ, zero, suc, ◌+◌, ◌-◌, ◌^◌, ◌≤◌, Bool, true, false, ◌&&◌, ◌==◌, cond, List, [], ◌∷◌, ◌++◌, length, map, slice_index_or, Option, Some, None, ℤ, pos}
+use Rattle.std.specs.Prelude.{◌≡◌, ℕ, zero, suc, ◌+◌, ◌-◌, ◌^◌, ◌<◌, ◌≤◌, Bool, true, false, ◌&&◌, ◌==◌, cond, List, [], ◌∷◌, ◌++◌, length, map, slice_index_or, Option, Some, None, ℤ, pos}
 use Rattle.std.specs.List.{AllByRecursion}
 use Rattle.tspdef.specs.Instances.{Instance}
-use Rattle.tspdef.specs.Cuts.{Cut, subtour, comb, IsCut}
+use Rattle.tspdef.specs.Cuts.{Cut, subtour, comb, odd, IsCut}
 use Rattle.tspdef.specs.Paths.{Condition, fixed, absent, present, two, four, condition_at}
 use Rattle.tspdef.specs.Closings.{Closing}
 use Rattle.tspdef.specs.Trees as trees
 use Rattle.tspdef.specs.Trees.{Tree, IsAccepted}
-use Rattle.certdef.specs.Items.{rises, fits}
-use Rattle.certdef.specs.Proofs.{Listed, subtour_cut, comb_cut, Duals, Written, open_leaf, closed_leaf, edge_split, clique_split, Proof, items, text}
+use Rattle.certdef.specs.Items.{rises, pairs_rise, fits}
+use Rattle.certdef.specs.Proofs.{Listed, subtour_cut, comb_cut, odd_cut, Duals, Written, open_leaf, closed_leaf, edge_split, clique_split, Proof, items, text}
 
 -- cities from 0, of cities from 1
 abbrev pub from_zero : List ℕ → List ℕ
 from_zero s = map (λ c. c - 1) s
 
+-- a pair of cities from 0, of one of cities from 1
+abbrev pub pair_from_zero : (ℕ × ℕ) → (ℕ × ℕ)
+pair_from_zero p = (p.0 - 1, p.1 - 1)
+
 -- the cut of n cities that is listed
 abbrev pub cut_of : ℕ → Listed → Cut
 cut_of n (subtour_cut s) = subtour n (from_zero s)
 cut_of n (comb_cut h ts) = comb n (from_zero h) (map from_zero ts)
+cut_of n (odd_cut h ps) = odd n (from_zero h) (map pair_from_zero ps)
 
 abbrev pub cuts_of : ℕ → List Listed → List Cut
 cuts_of n cs = map (cut_of n) cs
@@ -88,9 +93,16 @@ DepthsName path (closed_leaf d) = name_cliques path (firsts d.conds) ≡ true
 DepthsName path (edge_split u v a b) = DepthsName (path ++ absent (u - 1) (v - 1) ∷ []) a × DepthsName (path ++ present (u - 1) (v - 1) ∷ []) b
 DepthsName path (clique_split s a b) = DepthsName (path ++ two (from_zero s) ∷ []) a × DepthsName (path ++ four (from_zero s) ∷ []) b
 
+-- the pairs of an odd cut rise
+abbrev pub rises_in_cut : Listed → Bool
+rises_in_cut (subtour_cut s) = true
+rises_in_cut (comb_cut h ts) = true
+rises_in_cut (odd_cut h ps) = pairs_rise ps
+
 -- a value of the grammar for n cities, but for its own number of cities and for what depths name
 pub record IsReadable (n : ℕ) (p : Proof) : Type 0 where
   pub lines : AllByRecursion (λ i. fits n i ≡ true) (items p)
+  pub pairs : AllByRecursion (λ c. rises_in_cut c ≡ true) p.cuts
   pub rise : LeavesRise n (length p.cuts) p.tree
 
 -- a value of the grammar, but for its own number of cities
@@ -100,28 +112,34 @@ pub record HasForm (n : ℕ) (p : Proof) : Type 0 where
 
 -- ---- what a value says of an instance
 
--- A value is about an instance and a length: its size is the instance's, it says the length, its cuts are cuts, whether a leaf
--- names them or not, and its tour counts cities from 1.
-pub record IsAbout (i : Instance) (l : ℕ) (p : Proof) : Type 0 where
+-- the bound of a text for length l: the length itself where none is told, else the number that is told, which is less
+abbrev pub IsBoundOf : Option ℕ → ℕ → ℕ → Type 0
+IsBoundOf None l b = b ≡ l
+IsBoundOf (Some told) l b = (told ≡ b) × (b < l)
+
+-- A value is about an instance, a length and a bound: its size is the instance's, it says the length and the bound, its cuts are
+-- cuts, whether a leaf names them or not, and its tour counts cities from 1.
+pub record IsAbout (i : Instance) (l b : ℕ) (p : Proof) : Type 0 where
   pub size : p.cities ≡ i.n
   pub same : p.long ≡ l
+  pub bound : IsBoundOf p.bound l b
   pub cuts : AllByRecursion (IsCut i.n) (cuts_of i.n p.cuts)
   pub from_one : AllByRecursion (λ c. 1 ≤ c) p.tour
 
 -- it is, and its tour and its tree are an accepted proof
-pub record IsAcceptedProof (i : Instance) (l : ℕ) (p : Proof) : Type 0 where
-  pub about : IsAbout i l p
-  pub accepted : IsAccepted i (from_zero p.tour) l (tree_in i.n p)
+pub record IsAcceptedProof (i : Instance) (l b : ℕ) (p : Proof) : Type 0 where
+  pub about : IsAbout i l b p
+  pub accepted : IsAccepted i (from_zero p.tour) l b (tree_in i.n p)
 
 -- a text that may be accepted has at most so many bytes
 abbrev pub most_bytes : ℕ
 most_bytes = 2 ^ 60
 
--- the bytes are the text of a value of the grammar that is accepted with length l
-pub record IsTextOf (i : Instance) (bytes : List ℕ) (l : ℕ) (p : Proof) : Type 0 where
+-- the bytes are the text of a value of the grammar that is accepted with length l and bound b
+pub record IsTextOf (i : Instance) (bytes : List ℕ) (l b : ℕ) (p : Proof) : Type 0 where
   pub text : bytes ≡ text p
   pub form : HasForm i.n p
-  pub accepted : IsAcceptedProof i l p
+  pub accepted : IsAcceptedProof i l b p
 
-abbrev pub IsAcceptedText : Instance → List ℕ → ℕ → Type 0
-IsAcceptedText i bytes l = (length bytes ≤ most_bytes) × (p : Proof) × IsTextOf i bytes l p
+abbrev pub IsAcceptedText : Instance → List ℕ → ℕ → ℕ → Type 0
+IsAcceptedText i bytes l b = (length bytes ≤ most_bytes) × (p : Proof) × IsTextOf i bytes l b p

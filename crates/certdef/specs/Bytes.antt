@@ -1,7 +1,8 @@
 -- The verdict on the bytes of a text, byte by byte. Refusals by number: 1 a line that is not of the form at its place, or
 -- the bytes end before the tree does; 2 another number of cities; 3 no canonical tour of the instance: not of its cities, not
 -- canonical, or without a fixed pair; 4 not its length; 5 a bad cut, or a set of all cities; 6 a split of a decided pair, a fixed
--- one among them; 7 a leaf whose bound is too weak; 8 an open leaf; 9 bytes behind the tree; 10 more than 2^60 bytes.
+-- one among them; 7 a leaf whose bound is too weak; 8 an open leaf; 9 bytes behind the tree; 10 more than 2^60 bytes; 11 a bound that
+-- is told and is not below the length.
 use Rattle.std.specs.Prelude.{ℕ, ◌+◌, ◌==◌, nat_lt, nat_le, if◌then◌else◌, List, [], ◌∷◌, ◌++◌, length}
 use Rattle.tspdef.specs.Instances.{Instance}
 use Rattle.certdef.specs.Items.{item_of, longest}

@@ -1,22 +1,25 @@
 -- The lines of a proof text: what a line says, how it is spelled, and its bounds of form.
-use Rattle.std.specs.Prelude.{ℕ, ◌+◌, ◌^◌, Bool, true, ◌&&◌, ◌==◌, nat_lt, nat_le, if◌then◌else◌, List, [], ◌∷◌, length, map, get_or, drop, Option, Some, None, ℤ, nat_abs, codes, decimal}
+use Rattle.std.specs.Prelude.{ℕ, ◌+◌, ◌^◌, Bool, true, ◌&&◌, ◌||◌, ◌==◌, nat_lt, nat_le, if◌then◌else◌, List, [], ◌∷◌, length, map, get_or, drop, Option, Some, None, ℤ, nat_abs, codes, decimal}
 use Rattle.std.specs.Fmt.{signed_decimal}
 use Rattle.std.specs.List.{join_with_byte, slice_split}
 use Rattle.std.specs.Str.{bytes_eq}
 use Rattle.std.specs.Str.Parse.{digits_value, signed_digits_value}
 
 -- What a line says, in its own numbers: cities, cuts and depths count from 1. A set of k cities begins with k, which is
--- not kept; a comb line tells how many teeth follow, a leaf line how many lines of each kind.
+-- not kept; a comb line tells how many teeth follow, a line of an odd cut how many pairs, a leaf line how many lines of each kind.
 pub data Item : Type 0 where
-  title_line : Item
+  title_line : (version : ℕ) → Item
   size_line : (n : ℕ) → Item
   length_line : (l : ℕ) → Item
+  bound_line : (b : ℕ) → Item
   tour_line : (cities : List ℕ) → Item
   cuts_line : (k : ℕ) → Item
   subtour_line : (set : List ℕ) → Item
   comb_line : (teeth : ℕ) → Item
   handle_line : (set : List ℕ) → Item
   tooth_line : (set : List ℕ) → Item
+  odd_line : (pairs : ℕ) → Item
+  pair_line : (u v : ℕ) → Item
   edge_line : (u v : ℕ) → Item
   clique_line : (set : List ℕ) → Item
   leaf_line : (a b c : ℕ) → Item
@@ -31,15 +34,18 @@ set_words s = decimal (length s) ∷ map decimal s
 
 -- the words of a line
 abbrev pub words : Item → List (List ℕ)
-words title_line = codes "TSPCERT" ∷ codes "1" ∷ []
+words (title_line v) = codes "TSPCERT" ∷ decimal v ∷ []
 words (size_line n) = codes "N" ∷ decimal n ∷ []
 words (length_line l) = codes "LENGTH" ∷ decimal l ∷ []
+words (bound_line b) = codes "BOUND" ∷ decimal b ∷ []
 words (tour_line cs) = codes "TOUR" ∷ map decimal cs
 words (cuts_line k) = codes "CUTS" ∷ decimal k ∷ []
 words (subtour_line s) = codes "S" ∷ set_words s
 words (comb_line t) = codes "C" ∷ decimal t ∷ []
 words (handle_line s) = codes "H" ∷ set_words s
 words (tooth_line s) = codes "T" ∷ set_words s
+words (odd_line t) = codes "B" ∷ decimal t ∷ []
+words (pair_line u v) = codes "F" ∷ decimal u ∷ decimal v ∷ []
 words (edge_line u v) = codes "E" ∷ decimal u ∷ decimal v ∷ []
 words (clique_line s) = codes "K" ∷ set_words s
 words (leaf_line a b c) = codes "L" ∷ decimal a ∷ decimal b ∷ decimal c ∷ []
@@ -61,6 +67,20 @@ abbrev pub each_below : ℕ → List ℕ → Bool
 each_below most [] = true
 each_below most (c ∷ cs) = nat_lt c most && each_below most cs
 
+-- the second pair comes behind the first: by its first city, then by its second
+abbrev pub is_before : (ℕ × ℕ) → (ℕ × ℕ) → Bool
+is_before p q = nat_lt p.0 q.0 || ((p.0 == q.0) && nat_lt p.1 q.1)
+
+-- strictly rising pairs, behind p
+abbrev pub pairs_rise_from : (ℕ × ℕ) → List (ℕ × ℕ) → Bool
+pairs_rise_from p [] = true
+pairs_rise_from p (q ∷ qs) = is_before p q && pairs_rise_from q qs
+
+-- strictly rising pairs
+abbrev pub pairs_rise : List (ℕ × ℕ) → Bool
+pairs_rise [] = true
+pairs_rise (p ∷ ps) = pairs_rise_from p ps
+
 -- a set of some of the cities 1 to n
 abbrev pub is_set : ℕ → List ℕ → Bool
 is_set n s = nat_lt 0 (length s) && rises 1 n s
@@ -71,15 +91,18 @@ is_dual y = nat_lt 0 y && nat_le y (2 ^ 62)
 
 -- the numbers are within the bounds of form, for n cities
 abbrev pub in_bounds : ℕ → Item → Bool
-in_bounds n title_line = true
+in_bounds n (title_line v) = nat_lt 0 v && nat_le v 2
 in_bounds n (size_line m) = nat_lt m (2 ^ 32)
 in_bounds n (length_line l) = nat_le l (2 ^ 42)
+in_bounds n (bound_line b) = nat_le b (2 ^ 42)
 in_bounds n (tour_line cs) = (length cs == n) && each_below (10 ^ 10) cs
 in_bounds n (cuts_line k) = nat_lt k (2 ^ 32)
 in_bounds n (subtour_line s) = is_set n s
 in_bounds n (comb_line t) = nat_le t 2000
 in_bounds n (handle_line s) = is_set n s
 in_bounds n (tooth_line s) = is_set n s
+in_bounds n (odd_line t) = nat_lt 0 t && nat_le t 4095
+in_bounds n (pair_line u v) = nat_lt 0 u && (nat_lt u v && nat_le v n)
 in_bounds n (edge_line u v) = nat_lt 0 u && (nat_lt u v && nat_le v n)
 in_bounds n (clique_line s) = is_set n s
 in_bounds n (leaf_line a b c) = nat_le a n && (nat_le b 4096 && nat_le c 4096)
@@ -110,15 +133,18 @@ only_item w ws =
     let set = values (drop 1 ws) in
     let a = value (get_or ws 0 []) in
     let b = value (get_or ws 1 []) in
-    if bytes_eq w (codes "TSPCERT") then title_line else
+    if bytes_eq w (codes "TSPCERT") then title_line a else
     if bytes_eq w (codes "N") then size_line a else
     if bytes_eq w (codes "LENGTH") then length_line a else
+    if bytes_eq w (codes "BOUND") then bound_line a else
     if bytes_eq w (codes "TOUR") then tour_line (values ws) else
     if bytes_eq w (codes "CUTS") then cuts_line a else
     if bytes_eq w (codes "S") then subtour_line set else
     if bytes_eq w (codes "C") then comb_line a else
     if bytes_eq w (codes "H") then handle_line set else
     if bytes_eq w (codes "T") then tooth_line set else
+    if bytes_eq w (codes "B") then odd_line a else
+    if bytes_eq w (codes "F") then pair_line a b else
     if bytes_eq w (codes "E") then edge_line a b else
     if bytes_eq w (codes "K") then clique_line set else
     if bytes_eq w (codes "L") then leaf_line a b (value (get_or ws 2 [])) else

@@ -1,12 +1,13 @@
 -- What a proof text says, as a value of its own, and the text of the value.
-use Rattle.std.specs.Prelude.{ℕ, List, [], ◌∷◌, ◌++◌, length, map, ℤ}
+use Rattle.std.specs.Prelude.{ℕ, List, [], ◌∷◌, ◌++◌, length, map, Option, Some, None, ℤ}
 use Rattle.std.specs.List.{flat_map}
-use Rattle.certdef.specs.Items.{Item, title_line, size_line, length_line, tour_line, cuts_line, subtour_line, comb_line, handle_line, tooth_line, edge_line, clique_line, leaf_line, city_line, cut_line, condition_line, open_line, line}
+use Rattle.certdef.specs.Items.{Item, title_line, size_line, length_line, bound_line, tour_line, cuts_line, subtour_line, comb_line, handle_line, tooth_line, odd_line, pair_line, edge_line, clique_line, leaf_line, city_line, cut_line, condition_line, open_line, line}
 
--- a cut as it is listed, by its sets of cities from 1: one set, or a handle and teeth
+-- a cut as it is listed, by its sets of cities from 1: one set, or a handle and teeth, or a handle and pairs
 pub data Listed : Type 0 where
   subtour_cut : (set : List ℕ) → Listed
   comb_cut : (handle : List ℕ) → (teeth : List (List ℕ)) → Listed
+  odd_cut : (handle : List ℕ) → (pairs : List (ℕ × ℕ)) → Listed
 
 -- the duals of a closed leaf: of cities by number, of cuts by their number in the list, of conditions by depth; all from 1
 pub record Duals : Type 0 where
@@ -21,17 +22,22 @@ pub data Written : Type 0 where
   edge_split : (u v : ℕ) → (without with : Written) → Written
   clique_split : (set : List ℕ) → (twice more : Written) → Written
 
--- a value of the grammar: the number of cities, a length, a tour of cities from 1, the list of cuts and the tree
+-- a value of the grammar: the number of cities, a length, a bound or none, a tour of cities from 1, the list of cuts and the tree
 pub record Proof : Type 0 where
   pub cities : ℕ
   pub long : ℕ
+  pub bound : Option ℕ
   pub tour : List ℕ
   pub cuts : List Listed
   pub tree : Written
 
+abbrev pub pair_item : (ℕ × ℕ) → Item
+pair_item p = pair_line p.0 p.1
+
 abbrev pub listed_items : Listed → List Item
 listed_items (subtour_cut s) = subtour_line s ∷ []
 listed_items (comb_cut h ts) = comb_line (length ts) ∷ handle_line h ∷ map tooth_line ts
+listed_items (odd_cut h ps) = odd_line (length ps) ∷ handle_line h ∷ map pair_item ps
 
 abbrev pub city_item : (ℕ × ℤ) → Item
 city_item p = city_line p.0 p.1
@@ -52,8 +58,13 @@ tree_items (closed_leaf d) = leaf_line (length d.cities) (length d.cuts) (length
 tree_items (edge_split u v a b) = edge_line u v ∷ tree_items a ++ tree_items b
 tree_items (clique_split s a b) = clique_line s ∷ tree_items a ++ tree_items b
 
+-- the lines before the tour: a text of the second version tells a bound, one of the first does not
+abbrev pub head_items : ℕ → ℕ → Option ℕ → List Item
+head_items n l None = title_line 1 ∷ size_line n ∷ length_line l ∷ []
+head_items n l (Some b) = title_line 2 ∷ size_line n ∷ length_line l ∷ bound_line b ∷ []
+
 abbrev pub items : Proof → List Item
-items p = title_line ∷ size_line p.cities ∷ length_line p.long ∷ tour_line p.tour ∷ cuts_line (length p.cuts) ∷ flat_map listed_items p.cuts ++ tree_items p.tree
+items p = head_items p.cities p.long p.bound ++ tour_line p.tour ∷ cuts_line (length p.cuts) ∷ flat_map listed_items p.cuts ++ tree_items p.tree
 
 -- the lines of a proof, without the LF at the end of each
 abbrev pub lines : Proof → List (List ℕ)

@@ -3,12 +3,12 @@
 use Rattle.std.specs.Prelude.{ℕ, ◌-◌, ◌%◌, Bool, true, false, not, ◌&&◌, ◌==◌, nat_lt, nat_le, List, [], ◌∷◌, length}
 use Rattle.std.specs.Int.Signed.{lt_z}
 use Rattle.tspdef.specs.Sets.{has, meet, meets_any, leaves}
-use Rattle.tspdef.specs.Tours.{steps, has_step, last_city}
+use Rattle.tspdef.specs.Tours.{steps, has_step, last_city, crosses}
 use Rattle.tspdef.specs.Instances.{Instance, length_in}
-use Rattle.tspdef.specs.Cuts.{Cut, subtour, comb}
+use Rattle.tspdef.specs.Cuts.{Cut, subtour, comb, odd, most_pairs}
 use Rattle.tspdef.specs.Paths.{Condition, condition_at, is_decided, root}
 use Rattle.tspdef.specs.Bounds.{bound, needed}
-use Rattle.certdef.specs.Items.{rises, each_below}
+use Rattle.certdef.specs.Items.{rises, each_below, pairs_rise}
 use Rattle.certdef.specs.Proofs.{Listed, Duals}
 use Rattle.certdef.specs.Accepted.{from_zero, cut_of, cuts_of, closing_of, is_clique}
 
@@ -51,10 +51,25 @@ abbrev pub are_teeth : ℕ → List ℕ → List (List ℕ) → Bool
 are_teeth n h [] = true
 are_teeth n h (t ∷ ts) = (rises 0 (n - 1) t && (meet t h && leaves t h)) && are_teeth n h ts
 
+-- pairs u < v below n
+abbrev pub are_pairs : ℕ → List (ℕ × ℕ) → Bool
+are_pairs n [] = true
+are_pairs n (p ∷ ps) = (nat_lt p.0 p.1 && nat_lt p.1 n) && are_pairs n ps
+
+-- each pair has one end in the handle
+abbrev pub each_crosses : List ℕ → List (ℕ × ℕ) → Bool
+each_crosses h [] = true
+each_crosses h (p ∷ ps) = crosses (has h) p && each_crosses h ps
+
+-- an odd number of different pairs, each with one end in the handle
+abbrev pub are_odd_pairs : ℕ → List ℕ → List (ℕ × ℕ) → Bool
+are_odd_pairs n h ps = (length ps % 2 == 1) && (nat_le (length ps) most_pairs && (are_pairs n ps && (pairs_rise ps && each_crosses h ps)))
+
 -- a cut of n cities
 abbrev pub is_cut : ℕ → Cut → Bool
 is_cut n (subtour m s) = (m == n) && is_proper n s
 is_cut n (comb m h ts) = (m == n) && (is_proper n h && ((length ts % 2 == 1) && (nat_le 3 (length ts) && (are_teeth n h ts && are_disjoint ts))))
+is_cut n (odd m h ps) = (m == n) && (is_proper n h && are_odd_pairs n h ps)
 
 -- what lines are judged by, beside their form
 pub record Tests : Type 0 where
@@ -73,7 +88,7 @@ pub record Tests : Type 0 where
   pub proper : List ℕ → Bool
   -- the depth names a condition on a set of the path
   pub names : List Condition → ℕ → Bool
-  -- the duals close a leaf with this path for a length, where these cuts are listed
+  -- the duals close a leaf with this path for a bound, where these cuts are listed
   pub closes : ℕ → List Listed → List Condition → Duals → Bool
   -- a leaf may be open
   pub opens : Bool
@@ -82,9 +97,9 @@ pub record Tests : Type 0 where
 abbrev pub is_tour_from_one : Instance → List ℕ → Bool
 is_tour_from_one i cs = each_positive cs && (is_tour_of i (from_zero cs) && is_canonical (from_zero cs))
 
--- the bound of the duals exceeds what the length needs
+-- the bound of the duals exceeds what a bound of b for all tours needs
 abbrev pub closes_leaf : Instance → ℕ → List Listed → List Condition → Duals → Bool
-closes_leaf i l cs path d = lt_z (needed l) (bound i path (closing_of i.n (cuts_of i.n cs) d))
+closes_leaf i b cs path d = lt_z (needed b) (bound i path (closing_of i.n (cuts_of i.n cs) d))
 
 -- a verifier's
 abbrev pub verifier : Instance → Tests

@@ -3,16 +3,16 @@
 //! pairs have no depth. Writer, reader and verifier share them. There is no program code in this crate.
 #![tactic(auto)]
 
-ghost use Rattle.certdef.specs.Laws.{AcceptedTextIsOptimal, FixedPairsHaveNoDepth};
+ghost use Rattle.certdef.specs.Laws.{AcceptedTextIsBelow, FixedPairsHaveNoDepth};
 ghost use Rattle.certdef.specs.Restarts.{ClosedIsAccepted};
 
-use tspdef::accepted_is_optimal;
+use tspdef::accepted_is_below;
 
-/// Where a text is accepted with a length, no tour is shorter, whoever wrote it.
-pub fn accepted_text_is_optimal()
-    ensures { AcceptedTextIsOptimal }
+/// Where a text is accepted with a bound, no tour is shorter, whoever wrote it.
+pub fn accepted_text_is_below()
+    ensures { AcceptedTextIsBelow }
 {
-    accepted_is_optimal();
+    accepted_is_below();
 }
 
 /// A sound proof, as a restart body has it, is an accepted one where no leaf is open.

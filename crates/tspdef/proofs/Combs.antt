@@ -8,10 +8,10 @@ use Rattle.tspdef.proofs.Steps.{tour_has}
 use Rattle.tspdef.proofs.CrossingLemmas.{tour_parity, tour_crosses, within_rising}
 
 -- the step goes from the handle's part of t to the rest of t
-abbrev inner : (ℕ → Bool) → (ℕ → Bool) → (ℕ × ℕ) → Bool
+abbrev pub inner : (ℕ → Bool) → (ℕ → Bool) → (ℕ × ℕ) → Bool
 inner t h e = (t e.0 && t e.1) && crosses h e
 
-abbrev inners : (ℕ → Bool) → (ℕ → Bool) → List (ℕ × ℕ) → ℕ
+abbrev pub inners : (ℕ → Bool) → (ℕ → Bool) → List (ℕ × ℕ) → ℕ
 inners t h [] = 0
 inners t h (e ∷ es) = cond (inner t h e) 1 0 + inners t h es
 
@@ -19,7 +19,7 @@ parts_step : (ta tb ha hb : Bool) → cond (cond (ta && ha) (not (tb && hb)) (tb
 parts_step ta tb ha hb = grind arith
 
 -- the two parts of a tooth are crossed at its border and, each, at the inner steps
-parts : (t h : ℕ → Bool) (es : List (ℕ × ℕ)) → crossings (λ c. t c && h c) es + crossings (λ c. t c && not (h c)) es ≡ crossings t es + 2 * inners t h es
+pub parts : (t h : ℕ → Bool) (es : List (ℕ × ℕ)) → crossings (λ c. t c && h c) es + crossings (λ c. t c && not (h c)) es ≡ crossings t es + 2 * inners t h es
 parts t h [] = refl
 parts t h (e ∷ es) = let ih = parts t h es in let p = parts_step (t e.0) (t e.1) (h e.0) (h e.1) in omega arith
 

@@ -10,7 +10,7 @@ use Rattle.tspdef.specs.Paths.{Condition, absent, present, two, four, Meets, Obe
 use Rattle.tspdef.specs.Closings.{Closing, IsClosing}
 use Rattle.tspdef.specs.Bounds.{bound, needed}
 use Rattle.tspdef.specs.Trees.{Tree, open_leaf, closed_leaf, edge_split, clique_split, IsSound, open_leaves, ObeysAnOpenLeaf, Covers, Side, first, second, open_path, with_leaf}
-use Rattle.tspdef.specs.Laws.{AcceptedIsOptimal, RootCovers, EdgeSplitCovers, CliqueSplitCovers, ClosingCovers, CoveredIsLeast}
+use Rattle.tspdef.specs.Laws.{AcceptedIsBelow, RootCovers, EdgeSplitCovers, CliqueSplitCovers, ClosingCovers, CoveredIsLeast}
 use Rattle.tspdef.proofs.CrossingLemmas.{subtour_law}
 use Rattle.tspdef.proofs.Duality.{bound_below}
 
@@ -78,10 +78,10 @@ root_obeyed i tour is = fixed_obeyed (steps tour) i.fixed is.holds_fixed
 pub covered_is_least : CoveredIsLeast
 covered_is_least i t l z covers tour is = ⊎_elim (λ x. absurd (none_obeyed (steps tour) (root i) t z x)) (λ x. x) (covers tour is)
 
-pub accepted_is_optimal : AcceptedIsOptimal
-accepted_is_optimal i tour other l t h acc is = ⊎_elim
+pub accepted_is_below : AcceptedIsBelow
+accepted_is_below i tour other l b t h acc is = ⊎_elim
     (λ x. absurd (none_obeyed (steps other) (root i) t acc.none_open x)) (λ x. x)
-    (sound_below i l (root i) t other h is acc.sound (root_obeyed i other is))
+    (sound_below i b (root i) t other h is acc.sound (root_obeyed i other is))
 
 pub root_covers : RootCovers
 root_covers i l tour is = inl (root_obeyed i tour is)

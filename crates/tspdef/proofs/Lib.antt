@@ -2,6 +2,7 @@ pub mod SumLemmas
 pub mod Steps
 pub mod CrossingLemmas
 pub mod Combs
+pub mod OddCuts
 pub mod Duality
 pub mod Covering
 pub mod RootLemmas

@@ -1,12 +1,12 @@
 -- The laws that everything rests on.
-use Rattle.std.specs.Prelude.{◌≡◌, ◌++◌, ℕ, ◌+◌, ◌*◌, ◌%◌, ◌^◌, ◌<◌, ◌≤◌, max, Bool, false, List, pos, ◌≤ℤ◌, ◌<ℤ◌, Some}
+use Rattle.std.specs.Prelude.{◌≡◌, ◌++◌, ℕ, ◌+◌, ◌-◌, ◌*◌, ◌%◌, ◌^◌, ◌<◌, ◌≤◌, max, Bool, false, List, pos, ◌≤ℤ◌, ◌<ℤ◌, Some}
 use Rattle.std.specs.List.{AllByRecursion}
 use Rattle.tspdef.specs.Distances.{Rule, euclidean, rounded_up, pseudo_euclidean, manhattan, maximum, is_enough, root as root_of, squared, distance_apart, IsLeast}
 use Rattle.tspdef.specs.Sets.{has, IsProper}
 use Rattle.tspdef.specs.Tours.{IsTour, steps, crossings, IsSameCycle, IsCanonicalForm, has_step}
 use Rattle.tspdef.specs.Fixed.{AreRisingPairs}
 use Rattle.tspdef.specs.Instances.{Instance, IsTourOf, length_in}
-use Rattle.tspdef.specs.Cuts.{Cut, IsCut, HoldsOf, sets_of, right_side, coefficient}
+use Rattle.tspdef.specs.Cuts.{Cut, subtour, comb, odd, IsCut, HoldsOf, sets_of, right_side, coefficient, most_pairs}
 use Rattle.tspdef.specs.Paths.{Condition, Meets, Obeys, is_decided, IsPair, DecidesAll, IsPath, branches, fixed_conditions, root}
 use Rattle.tspdef.specs.Closings.{Closing, Fits, IsClosing}
 use Rattle.tspdef.specs.Bounds.{scale, bound, needed}
@@ -36,12 +36,23 @@ CrossingsAreEven = (i : Instance) (tour s : List ℕ) → IsTourOf i tour → Is
 
 -- Every tour meets every cut.
 abbrev pub ToursMeetCuts : Type 0
-ToursMeetCuts = (i : Instance) (tour : List ℕ) (c : Cut) → IsTourOf i tour → IsCut i.n c → HoldsOf c tour
+ToursMeetCuts = (i : Instance) (tour : List ℕ) (c : Cut) → 3 ≤ i.n → IsTourOf i tour → IsCut i.n c → HoldsOf c tour
 
--- A cut has no more than n teeth, and its sets have exactly one of two cities three times at most.
+-- how great the right side of a cut of n cities may be: a comb has no more than n teeth
+abbrev pub most_right : ℕ → Cut → ℕ
+most_right n (subtour m s) = 2
+most_right n (comb m handle teeth) = 3 * n + 1
+most_right n (odd m handle pairs) = 3 * most_pairs + 1
+
+-- how many of its sets may have exactly one of two cities: a city is in n - 1 different pairs at most
+abbrev pub most_crossed : ℕ → Cut → ℕ
+most_crossed n (subtour m s) = 1
+most_crossed n (comb m handle teeth) = 3
+most_crossed n (odd m handle pairs) = 2 * n - 1
+
 pub record IsSmallCut (n : ℕ) (c : Cut) : Type 0 where
-  pub right : right_side c ≤ 3 * n + 2
-  pub crossed : (u v : ℕ) → coefficient (sets_of c) u v ≤ 3
+  pub right : right_side c ≤ most_right n c
+  pub crossed : (u v : ℕ) → coefficient (sets_of c) u v ≤ most_crossed n c
 
 abbrev pub CutsAreSmall : Type 0
 CutsAreSmall = (n : ℕ) (c : Cut) → IsCut n c → IsSmallCut n c
@@ -55,10 +66,10 @@ BoundIsBelow = (i : Instance) (path : List Condition) (c : Closing) (tour : List
 abbrev pub FittingIsClosing : Type 0
 FittingIsClosing = (n : ℕ) (path : List Condition) (c : Closing) → Fits n path c → IsClosing n path c
 
--- Where a proof is accepted, no tour is shorter than its tour.
-abbrev pub AcceptedIsOptimal : Type 0
-AcceptedIsOptimal = (i : Instance) (tour other : List ℕ) (l : ℕ) (t : Tree) → 3 ≤ i.n → IsAccepted i tour l t
-    → IsTourOf i other → l ≤ length_in i other
+-- Where a proof is accepted, no tour is shorter than its bound.
+abbrev pub AcceptedIsBelow : Type 0
+AcceptedIsBelow = (i : Instance) (tour other : List ℕ) (l b : ℕ) (t : Tree) → 3 ≤ i.n → IsAccepted i tour l b t
+    → IsTourOf i other → b ≤ length_in i other
 
 -- Fixed pairs are a path: none is decided by those before it. And they have no depth: the conditions behind them are those of
 -- the path behind the root.

@@ -35,16 +35,18 @@ settled (closed_leaf c) = 1
 settled (edge_split u v a b) = settled a + settled b + 1
 settled (clique_split s a b) = settled a + settled b + 1
 
--- sound for tours of length l, from the root on
+-- sound for the bound l, from the root on
 abbrev pub IsSoundFor : Instance → ℕ → Tree → Type 0
 IsSoundFor i l t = IsSound i (needed l) (root i) t
 
--- A canonical tour, its length, and a sound tree for that length without an open leaf: a proof that the tour is shortest.
-pub record IsAccepted (i : Instance) (tour : List ℕ) (l : ℕ) (t : Tree) : Type 0 where
+-- A canonical tour, its length, a bound no greater, and a sound tree for that bound without an open leaf: a proof that no tour is
+-- shorter than the bound. Where the bound is the length, the tour is shortest.
+pub record IsAccepted (i : Instance) (tour : List ℕ) (l b : ℕ) (t : Tree) : Type 0 where
   pub is_tour : IsTourOf i tour
   pub canonical : IsCanonical tour
   pub long : l ≡ length_in i tour
-  pub sound : IsSoundFor i l t
+  pub below : b ≤ l
+  pub sound : IsSoundFor i b t
   pub none_open : open_leaves t ≡ 0
 
 -- the steps obey the path of an open leaf of the tree, which stands at the end of a path

@@ -3,7 +3,7 @@
 //! laws over them, each the contract of a function here. There is no program code in this crate.
 #![tactic(auto)]
 
-ghost use Rattle.tspdef.specs.Laws.{RootsAreLeast, DistancesGoByRules, CrossingsAreEven, ToursMeetCuts, CutsAreSmall, BoundIsBelow, FittingIsClosing, AcceptedIsOptimal, RootsArePaths, ToursObeyRoots, RootCovers, EdgeSplitCovers, CliqueSplitCovers, ClosingCovers, CoveredIsLeast, RaysClose, SameCycleIsSameTour, CanonicalFormExists, CanonicalFormIsOne};
+ghost use Rattle.tspdef.specs.Laws.{RootsAreLeast, DistancesGoByRules, CrossingsAreEven, ToursMeetCuts, CutsAreSmall, BoundIsBelow, FittingIsClosing, AcceptedIsBelow, RootsArePaths, ToursObeyRoots, RootCovers, EdgeSplitCovers, CliqueSplitCovers, ClosingCovers, CoveredIsLeast, RaysClose, SameCycleIsSameTour, CanonicalFormExists, CanonicalFormIsOne};
 
 /// The root that a rule takes of a squared distance is the least whole number that is enough for it.
 pub fn roots_are_least()
@@ -21,12 +21,14 @@ pub fn crossings_are_even()
     ensures { CrossingsAreEven }
 {}
 
-/// Every tour meets every subtour cut and every comb (Grötschel and Padberg).
+/// Every tour of three cities or more meets every subtour cut, every comb (Grötschel and Padberg) and every odd cut (Edmonds; Padberg
+/// and Rao).
 pub fn tours_meet_cuts()
     ensures { ToursMeetCuts }
 {}
 
-/// A comb has no more teeth than there are cities, and a pair crosses three sets of a cut at most.
+/// A comb has no more teeth than there are cities, and a pair crosses three sets of a comb at most; of an odd cut of n cities it
+/// crosses 2n - 1 at most.
 pub fn cuts_are_small()
     ensures { CutsAreSmall }
 {}
@@ -37,9 +39,9 @@ pub fn bound_is_below()
     ensures fitting { FittingIsClosing }
 {}
 
-/// Where a proof is accepted, no tour is shorter than its tour, whoever wrote the proof.
-pub fn accepted_is_optimal()
-    ensures { AcceptedIsOptimal }
+/// Where a proof is accepted, no tour is shorter than its bound, whoever wrote the proof.
+pub fn accepted_is_below()
+    ensures { AcceptedIsBelow }
 {}
 
 /// The fixed pairs of an instance are a path, that of the root, whose conditions have no depths; every tour obeys it.
