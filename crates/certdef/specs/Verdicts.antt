@@ -114,9 +114,9 @@ abbrev pub on_length : ℕ → ℕ → Item → Outcome
 on_length v at (length_line l) = if v == 1 then go (wants_tour l l) else go (wants_bound l)
 on_length v at _ = refused 1 at
 
-abbrev pub on_bound : ℕ → ℕ → Item → Outcome
-on_bound l at (bound_line b) = if nat_lt b l then go (wants_tour l b) else refused 11 at
-on_bound l at _ = refused 1 at
+abbrev pub on_bound : Tests → ℕ → ℕ → Item → Outcome
+on_bound j l at (bound_line b) = if j.below b l then go (wants_tour l b) else refused 11 at
+on_bound j l at _ = refused 1 at
 
 abbrev pub on_tour : Tests → ℕ → ℕ → ℕ → Item → Outcome
 on_tour j l b at (tour_line cs) =
@@ -178,7 +178,7 @@ abbrev pub step : Tests → ℕ → Stage → Item → Outcome
 step j at wants_title x = on_title at x
 step j at (wants_size v) x = on_size j v at x
 step j at (wants_length v) x = on_length v at x
-step j at (wants_bound l) x = on_bound l at x
+step j at (wants_bound l) x = on_bound j l at x
 step j at (wants_tour l b) x = on_tour j l b at x
 step j at (wants_count l b) x = on_count j l b at x
 step j at (wants_cut h m) x = on_cut j h m at x
