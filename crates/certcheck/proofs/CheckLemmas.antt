@@ -57,12 +57,15 @@ refusal_told i c b (troubles.Refused k at) result t u v x y f e =
     subst (λ s. IfOk s (λ a. WhereTold (λ t. verdict_of a ≡ verdict i t.proof_in) t)) (sym e) (refusal_judged i c b k at t u v x y f)
 
 -- the answer is yes exactly where the verdict is
-yes_of : (a : Answer) (v : Verdict) (l : ℕ) → verdict_of a ≡ v → (a ≡ answers.Yes l) ↔ (v ≡ yes l)
-yes_of (answers.Yes m) v l e = ((λ h. let same : m ≡ l = cc in sym e ∙ ap yes same), (λ h. let same : m ≡ l = cc in ap answers.Yes same))
+yes_of : (a : Answer) (v : Verdict) (l b : ℕ) → verdict_of a ≡ v → (a ≡ answers.Yes l b) ↔ (v ≡ yes l b)
+yes_of (answers.Yes m k) v l b e = (
+  (λ h. let x : m ≡ l = cc in let y : k ≡ b = cc in sym e ∙ (ap (λ q. yes q k) x ∙ ap (yes l) y)),
+  (λ h. let x : m ≡ l = cc in let y : k ≡ b = cc in ap (λ q. answers.Yes q k) x ∙ ap (answers.Yes l) y),
+)
 yes_of (answers.No k at) v l e = ((λ h. cc), (λ h. cc))
 
 pub accepted_of : (i : Instance) (result : Result Answer CheckError) (t : Option Told) → i.n < 2 ^ 32 → YesIsAcceptedText → IfOk result (λ a. WhereTold (λ t. verdict_of a ≡ verdict i t.proof_in) t)
-    → IfOk result (λ a. WhereTold (λ t. (l : ℕ) → (a ≡ answers.Yes l) ↔ IsAcceptedText i t.proof_in l) t)
+    → IfOk result (λ a. WhereTold (λ t. (l b : ℕ) → (a ≡ answers.Yes l b) ↔ IsAcceptedText i t.proof_in l b) t)
 accepted_of i (Err e) t few law h = tt
 accepted_of i (Ok a) None few law h = tt
 accepted_of i (Ok a) (Some t) few law h = λ l.

@@ -13,11 +13,11 @@ use Rattle.certcheck.specs.declared.answer.Trouble.{Trouble}
 use Rattle.certcheck.specs.declared.answer.Trouble.TheVariants as troubles
 
 abbrev pub verdict_of : Answer → Verdict
-verdict_of (answers.Yes l) = yes l
+verdict_of (answers.Yes l b) = yes l b
 verdict_of (answers.No k at) = no k at
 
 abbrev pub IsYes : Answer → Type 0
-IsYes (answers.Yes l) = Unit {0}
+IsYes (answers.Yes l b) = Unit {0}
 IsYes (answers.No k at) = ⊥
 
 -- the answer is the refusal, or that there is no memory

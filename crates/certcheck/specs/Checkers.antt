@@ -5,7 +5,7 @@ use Rattle.tspdef.specs.Paths.{branches}
 use Rattle.branchx.specs.declared.cond.Cond.{Cond}
 use Rattle.branchx.specs.Cond.{condition_of, is_fixed}
 use Rattle.certdef.specs.Tests.{verifier}
-use Rattle.certdef.specs.Verdicts.{no, Stage, wants_cut, wants_handle, wants_tooth, wants_trees, wants_duals}
+use Rattle.certdef.specs.Verdicts.{no, Stage, wants_cut, wants_handle, wants_tooth, wants_odd_handle, wants_pair, wants_trees, wants_duals}
 use Rattle.certdef.specs.Bytes.{Reading, reads, start, bytes_on, verdict}
 use Rattle.certcheck.specs.declared.answer.Trouble.{Trouble}
 use Rattle.certcheck.specs.declared.answer.Trouble.TheVariants as troubles
@@ -40,13 +40,17 @@ abbrev pub cuts_at : Stage → ℕ
 cuts_at (wants_cut h m) = length h.cuts
 cuts_at (wants_handle h m from t) = length h.cuts
 cuts_at (wants_tooth h m from t s ts) = length h.cuts
+cuts_at (wants_odd_handle h m from t) = length h.cuts
+cuts_at (wants_pair h m from t s ps) = length h.cuts
 cuts_at (wants_trees h ps) = length h.cuts
 cuts_at (wants_duals h ps o a b c) = length h.cuts
 cuts_at _ = 0
 
--- of the leaf that is read the lines behind its first; of a comb its handle and its teeth so far
+-- of the leaf that is read the lines behind its first; of a comb its handle and its teeth so far, of an odd cut its handle and its
+-- pairs so far
 abbrev pub leaf_at : Stage → ℕ
 leaf_at (wants_tooth h m from t s ts) = 1 + length ts
+leaf_at (wants_pair h m from t s ps) = 1 + length ps
 leaf_at (wants_duals h ps o a b c) = length o.duals.cities + (length o.duals.cuts + length o.duals.conds)
 leaf_at _ = 0
 

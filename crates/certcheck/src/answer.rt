@@ -10,9 +10,15 @@ use std::fmt;
 /// A verifier's verdict.
 #[derive(Clone, Copy, Debug, PartialEq, Eq)]
 pub enum Answer {
-    /// The text is an accepted proof that a tour of this length is shortest.
-    Yes(u64),
-    /// The number of the first refusal, from 1 to 10, and its line.
+    /// The text is an accepted proof that no tour is shorter than the bound, which is at most the length of its tour; where they are equal,
+    /// the tour is shortest.
+    Yes {
+        /// The length of the tour.
+        length: u64,
+        /// What no tour is shorter than.
+        bound: u64,
+    },
+    /// The number of the first refusal, from 1 to 11, and its line.
     No(u32, u64),
 }
 
@@ -59,7 +65,7 @@ impl From<Failed> for CheckError {
 #[derive(Clone, Copy, Debug, PartialEq, Eq)]
 pub enum Trouble {
     NoMemory,
-    /// The number of the refusal, from 1 to 10, and its line.
+    /// The number of the refusal, from 1 to 11, and its line.
     Refused(u32, u64),
 }
 

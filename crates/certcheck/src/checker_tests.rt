@@ -2,7 +2,7 @@
 
 ghost use Rattle.std.specs.Prelude.{◌<◌, ◌≤◌, length};
 
-use crate::tests::{DUALS, HEAD, square};
+use crate::tests::{DUALS, HEAD, shortest, square};
 use crate::{Answer, Checker, Sizes, Trouble};
 use std::alloc::Global;
 use std::test::Fail;
@@ -54,11 +54,11 @@ fn a_proof_byte_by_byte_and_in_one_piece(rt: HostRuntime) -> Result<(), Fail> {
     let text = format!(in alloc; "{HEAD}{DUALS}")?;
     assert_eq!(rt;
         in_pieces(alloc, &square, text.as_bytes(), 1)?,
-        Answer::Yes(40)
+        shortest(40)
     );
     assert_eq!(rt;
         in_pieces(alloc, &square, text.as_bytes(), 65_536)?,
-        Answer::Yes(40)
+        shortest(40)
     );
     Ok(())
 }
@@ -112,7 +112,7 @@ fn sizes_of_paths_cuts_combs_and_lines(rt: HostRuntime) -> Result<(), Fail> {
     let whole = format!(in alloc; "{head}CUTS 0\nE 1 3\n{leaf}{leaf}")?;
     assert_eq!(rt;
         sizes_after(alloc, &square, whole.as_bytes())?,
-        (sizes(0, 0, 0, 0), Answer::Yes(40))
+        (sizes(0, 0, 0, 0), shortest(40))
     );
     Ok(())
 }
@@ -170,7 +170,7 @@ fn a_proof_cut_after_each_byte(rt: HostRuntime) -> Result<(), Fail> {
         let Ok(checker) = checker.feed(alloc, rest) else {
             return Err("the rest was refused".into());
         };
-        assert_eq!(rt; checker.finish(), Answer::Yes(40));
+        assert_eq!(rt; checker.finish(), shortest(40));
     }
     Ok(())
 }
@@ -237,7 +237,7 @@ fn drawn_cuttings_of_drawn_texts(rt: HostRuntime) -> Result<(), Fail> {
         }
         let whole = in_pieces(alloc, &square, &bytes, 65_536)?;
         assert_eq!(rt; in_drawn_pieces(alloc, &square, &bytes, &mut draw)?, whole);
-        if whole == Answer::Yes(40) {
+        if whole == shortest(40) {
             accepted = accepted.saturating_add(1);
         }
     }

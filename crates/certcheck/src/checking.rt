@@ -17,8 +17,8 @@ use verdict::yes_is_accepted_text;
 /// How many bytes are asked for at a time.
 const BLOCK: usize = 1 << 16;
 
-/// The verdict on the bytes that are left for the desk's proof: yes with a length exactly where they are a text that is accepted
-/// with it, and else the first refusal, by the line that it is told at.
+/// The verdict on the bytes that are left for the desk's proof: yes with a length and a bound exactly where they are a text that is
+/// accepted with them, and else the first refusal, by the line that it is told at.
 ///
 /// Whatever the answer, at most 2^60 + 1 bytes are taken: one more than a text may have shows that it is too long. They are taken in
 /// pieces of at most 65,536 bytes, each judged before the next is asked for, and none is asked for behind a refusal: that stands in
@@ -34,7 +34,7 @@ pub fn check<D: Desk>(
     desk: &mut D,
 ) -> Result<Answer, CheckError>
     ensures judged { IfOk result (λ a. WhereTold (λ t. verdict_of a ≡ verdict instance.now t.proof_in) (D.told desk.old)) }
-    ensures accepted { IfOk result (λ a. WhereTold (λ t. (l : ℕ) → (a ≡ Answer.Yes l) ↔ IsAcceptedText instance.now t.proof_in l) (D.told desk.old)) }
+    ensures accepted { IfOk result (λ a. WhereTold (λ t. (l b : ℕ) → (a ≡ Answer.Yes l b) ↔ IsAcceptedText instance.now t.proof_in l b) (D.told desk.old)) }
     ensures whole { IfOk result (λ a. IsYes a → BothTell (λ t u. u.proof_in ≡ []) (D.told desk.old) (D.told desk.new)) }
     ensures taken { (k : ℕ) × BothTell (TakesFirst Inlet.Proof k) (D.told desk.old) (D.told desk.new) }
     ensures few { BothTell (λ t u. count_taken t u ≤ 2 ^ 60 + 1) (D.told desk.old) (D.told desk.new) }

@@ -9,6 +9,7 @@ mod checker;
 mod checking;
 mod count;
 mod following;
+mod odd_cuts;
 mod path;
 mod progress;
 mod reading;

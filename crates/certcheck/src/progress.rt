@@ -22,8 +22,11 @@ use tspinst::Instance;
 #[derive(Clone, Copy, Debug)]
 pub(crate) enum Stage {
     Title,
-    Size,
-    Length,
+    /// The version of the text.
+    Size(u32),
+    Length(u32),
+    /// The bound, in a text of the second version.
+    Bound,
     Tour,
     Count,
     /// A cut, and how many after it.
@@ -32,6 +35,10 @@ pub(crate) enum Stage {
     Handle(u32, u64, u32),
     /// A comb's tooth, in the same way, and how many teeth after it.
     Tooth(u32, u64, u32),
+    /// An odd cut's handle: how many cuts after it, the number of its first line, and how many pairs.
+    OddHandle(u32, u64, u32),
+    /// An odd cut's pair, in the same way, and how many pairs after it.
+    Pair(u32, u64, u32),
     /// A tree on the path.
     Tree,
     End,
@@ -44,9 +51,11 @@ pub(crate) enum Stage {
 pub(crate) struct Progress {
     pub(crate) stage: Stage,
     pub(crate) long: u64,
+    pub(crate) bound: u64,
     pub(crate) cuts: Vec<Cut>,
     pub(crate) handle: Option<CitySet>,
     pub(crate) teeth: Vec<CitySet>,
+    pub(crate) pairs: Vec<(u32, u32)>,
     pub(crate) path: Path,
     pub(crate) cities: Vec<(u32, i64)>,
     pub(crate) cut_duals: Vec<(u32, u64)>,
@@ -62,9 +71,11 @@ impl Progress {
         Progress {
             stage: Stage::Title,
             long: 0,
+            bound: 0,
             cuts: Vec::new(alloc),
             handle: None,
             teeth: Vec::new(alloc),
+            pairs: Vec::new(alloc),
             path: Path::new(alloc, n),
             cities: Vec::new(alloc),
             cut_duals: Vec::new(alloc),
@@ -82,10 +93,10 @@ impl Progress {
         requires { IsOf instance.now.n self.old }
         ensures { Goes instance.now.n result self.new (spec.on_title at (said item)) }
     {
-        let Item::Cert = item else {
+        let Item::Cert(version) = item else {
             return Err(Trouble::Refused(1, at));
         };
-        self.stage = Stage::Size;
+        self.stage = Stage::Size(version);
         Ok(())
     }
 
@@ -93,11 +104,12 @@ impl Progress {
     pub(crate) fn on_size(
         &mut self,
         instance: &Instance,
+        version: u32,
         at: u64,
         item: Item,
     ) -> Result<(), Trouble>
         requires { IsOf instance.now.n self.old }
-        ensures { Goes instance.now.n result self.new (spec.on_size (verifier instance.now) at (said item)) }
+        ensures { Goes instance.now.n result self.new (spec.on_size (verifier instance.now) version at (said item)) }
     {
         let Item::N(cities) = item else {
             return Err(Trouble::Refused(1, at));
@@ -105,24 +117,51 @@ impl Progress {
         if cities != instance.n() {
             return Err(Trouble::Refused(2, at));
         }
-        self.stage = Stage::Length;
+        self.stage = Stage::Length(version);
         Ok(())
     }
 
-    /// Takes a line where the length is wanted.
+    /// Takes a line where the length is wanted. In a text of the first version it is the bound too.
     pub(crate) fn on_length(
+        &mut self,
+        instance: &Instance,
+        version: u32,
+        at: u64,
+        item: Item,
+    ) -> Result<(), Trouble>
+        requires { IsOf instance.now.n self.old }
+        ensures { Goes instance.now.n result self.new (spec.on_length version at (said item)) }
+    {
+        let Item::Length(long) = item else {
+            return Err(Trouble::Refused(1, at));
+        };
+        self.long = long;
+        self.bound = long;
+        self.stage = if version == 1 {
+            Stage::Tour
+        } else {
+            Stage::Bound
+        };
+        Ok(())
+    }
+
+    /// Takes a line where the bound is wanted.
+    pub(crate) fn on_bound(
         &mut self,
         instance: &Instance,
         at: u64,
         item: Item,
     ) -> Result<(), Trouble>
         requires { IsOf instance.now.n self.old }
-        ensures { Goes instance.now.n result self.new (spec.on_length at (said item)) }
+        ensures { Goes instance.now.n result self.new (spec.on_bound (verifier instance.now) self.old.long at (said item)) }
     {
-        let Item::Length(long) = item else {
+        let Item::Bound(bound) = item else {
             return Err(Trouble::Refused(1, at));
         };
-        self.long = long;
+        if bound >= self.long {
+            return Err(Trouble::Refused(11, at));
+        }
+        self.bound = bound;
         self.stage = Stage::Tour;
         Ok(())
     }
@@ -136,7 +175,7 @@ impl Progress {
         item: Item,
     ) -> Result<(), Trouble>
         requires { IsOf instance.now.n self.old }
-        ensures { Goes instance.now.n result self.new (spec.on_tour (verifier instance.now) self.old.long at (said item)) }
+        ensures { Goes instance.now.n result self.new (spec.on_tour (verifier instance.now) self.old.long self.old.bound at (said item)) }
     {
         let Item::Tour(cities) = item else {
             return Err(Trouble::Refused(1, at));
@@ -160,7 +199,7 @@ impl Progress {
         item: Item,
     ) -> Result<(), Trouble>
         requires { IsOf instance.now.n self.old }
-        ensures { Goes instance.now.n result self.new (spec.on_count (verifier instance.now) self.old.long at (said item)) }
+        ensures { Goes instance.now.n result self.new (spec.on_count (verifier instance.now) self.old.long self.old.bound at (said item)) }
     {
         let Item::Cuts(many) = item else {
             return Err(Trouble::Refused(1, at));
@@ -184,7 +223,7 @@ impl Progress {
     }
 
     /// Adds a cut.
-    fn add(
+    pub(crate) fn add(
         &mut self,
         alloc: Global,
         instance: &Instance,
@@ -222,6 +261,10 @@ impl Progress {
             }
             Item::Comb(teeth) => {
                 self.stage = Stage::Handle(left, at, teeth);
+                Ok(())
+            }
+            Item::Odd(pairs) => {
+                self.stage = Stage::OddHandle(left, at, pairs);
                 Ok(())
             }
             _ => Err(Trouble::Refused(1, at)),

@@ -177,7 +177,10 @@ impl Reading {
             return Answer::No(1, self.count.at());
         }
         match self.progress.stage {
-            Stage::End => Answer::Yes(self.progress.long),
+            Stage::End => Answer::Yes {
+                length: self.progress.long,
+                bound: self.progress.bound,
+            },
             _ => Answer::No(1, self.count.at()),
         }
     }

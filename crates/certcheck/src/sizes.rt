@@ -14,7 +14,7 @@ pub struct Sizes {
     pub depth: usize,
     /// The cuts that are listed so far.
     pub cuts: usize,
-    /// The lines so far of the leaf or the comb that is read, its first one left out; 0 elsewhere.
+    /// The lines so far of the leaf, the comb or the odd cut that is read, its first one left out; 0 elsewhere.
     pub leaf: usize,
     /// The bytes of the line that is begun.
     pub line: usize,
@@ -36,18 +36,24 @@ impl Progress {
         ensures { result ≡ cuts_at (stage_of self.now) }
     {
         match self.stage {
-            Stage::Title | Stage::Size | Stage::Length | Stage::Tour | Stage::Count => 0,
+            Stage::Title
+            | Stage::Size(_)
+            | Stage::Length(_)
+            | Stage::Bound
+            | Stage::Tour
+            | Stage::Count => 0,
             _ => self.cuts.len(),
         }
     }
 
-    /// How many lines of a leaf or a comb are read behind its first.
+    /// How many lines of a leaf, a comb or an odd cut are read behind its first.
     pub(crate) fn leaf(&self) -> usize
         requires { (n : ℕ) × Stands n self.now }
         ensures { result ≡ leaf_at (stage_of self.now) }
     {
         match self.stage {
             Stage::Tooth(_, _, _) => 1 + self.teeth.len(),
+            Stage::Pair(_, _, _) => 1 + self.pairs.len(),
             Stage::Duals(_, _, _, _) => {
                 self.cities.len() + (self.cut_duals.len() + self.condition_duals.len())
             }

@@ -115,7 +115,7 @@ impl Progress {
         if !closes(
             alloc,
             instance,
-            self.long,
+            self.bound,
             &self.cuts,
             &self.path,
             &self.cities,
@@ -260,8 +260,9 @@ impl Progress {
     {
         match self.stage {
             Stage::Title => self.on_title(instance, at, item),
-            Stage::Size => self.on_size(instance, at, item),
-            Stage::Length => self.on_length(instance, at, item),
+            Stage::Size(version) => self.on_size(instance, version, at, item),
+            Stage::Length(version) => self.on_length(instance, version, at, item),
+            Stage::Bound => self.on_bound(instance, at, item),
             Stage::Tour => self.on_tour(alloc, instance, at, item),
             Stage::Count => self.on_count(alloc, instance, at, item),
             Stage::Cut(left) => self.on_cut(alloc, instance, left, at, item),
@@ -270,6 +271,12 @@ impl Progress {
             }
             Stage::Tooth(left, from, more) => {
                 self.on_tooth(alloc, instance, left, from, more, at, item)
+            }
+            Stage::OddHandle(left, from, pairs) => {
+                self.on_odd_handle(alloc, instance, left, from, pairs, at, item)
+            }
+            Stage::Pair(left, from, more) => {
+                self.on_pair(alloc, instance, left, from, more, at, item)
             }
             Stage::Tree => self.on_tree(alloc, instance, at, item),
             Stage::End => Err(Trouble::Refused(9, at)),

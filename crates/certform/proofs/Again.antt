@@ -4,7 +4,7 @@ use Rattle.std.specs.Prelude.{nat_abs, ◌==◌, ℤ, pos, negsuc, ◌+ℤ◌, �
 use Rattle.std.specs.List.{AllByRecursion}
 use Rattle.std.proofs.lemmas.Bool.{cond-true, cond-false, cond_both, eqb-true, eq-eqb, ne_eqb}
 use Rattle.std.proofs.lemmas.List.{length-map}
-use Rattle.tspdef.specs.Cuts.{Cut, subtour, comb, IsCut}
+use Rattle.tspdef.specs.Cuts.{Cut, subtour, comb, odd, IsCut}
 use Rattle.tspdef.specs.Paths.{Condition, absent, present, two, four}
 use Rattle.tspdef.specs.Closings.{Closing, IsClosing, IsDualSize}
 use Rattle.tspdef.specs.Instances.{Instance, dist}
@@ -12,8 +12,8 @@ use Rattle.tspdef.specs.Sums.{sum_below, sum_pairs}
 use Rattle.tspdef.specs.Bounds.{scale, cut_rows, condition_rows, price, worth, city_dual, pair_term, bound}
 use Rattle.tspdef.specs.Trees as trees
 use Rattle.tspdef.specs.Trees.{Tree, IsSound, open_leaves, settled}
-use Rattle.certdef.specs.Accepted.{from_zero, cut_of, cuts_of, dual_of, duals_from, closing_of, tree_of}
-use Rattle.certform.specs.Written.{from_one, listed, written_cities, written_cuts, written_leaf, written_tree}
+use Rattle.certdef.specs.Accepted.{from_zero, pair_from_zero, cut_of, cuts_of, dual_of, duals_from, closing_of, tree_of}
+use Rattle.certform.specs.Written.{from_one, pair_from_one, listed, written_cities, written_cuts, written_leaf, written_tree}
 use Rattle.certform.specs.Faithful.{AreAlike}
 use Rattle.certform.proofs.Numbering.{HasAllOf}
 use Rattle.certform.specs.Listing.{AreListed}
@@ -32,9 +32,14 @@ sets_again : (ts : List (List ℕ)) → map from_zero (map from_one ts) ≡ ts
 sets_again [] = refl
 sets_again (t ∷ ts) = let e = cities_again t in let ih = sets_again ts in cc
 
+pairs_again : (ps : List (ℕ × ℕ)) → map pair_from_zero (map pair_from_one ps) ≡ ps
+pairs_again [] = refl
+pairs_again (p ∷ ps) = let e = less_one p.0 in let f = less_one p.1 in let ih = pairs_again ps in cc
+
 cut_again : (n : ℕ) (c : Cut) → IsCut n c → cut_of n (listed c) ≡ c
 cut_again n (subtour m s) k = let e = cities_again s in let f = k.0 in cc
 cut_again n (comb m h ts) k = let e = cities_again h in let g = sets_again ts in let f = k.0 in cc
+cut_again n (odd m h ps) k = let e = cities_again h in let g = pairs_again ps in let f = k.0 in cc
 
 pub cuts_again : (n : ℕ) (cs : List Cut) → AllByRecursion (IsCut n) cs → cuts_of n (map listed cs) ≡ cs
 cuts_again n [] h = refl

@@ -7,7 +7,7 @@ use Rattle.std.proofs.lemmas.Bool.{and_from, lt-ltb, le-leb, eq-eqb}
 use Rattle.std.proofs.lemmas.Fmt.{length-decimal-le_wide}
 use Rattle.std.proofs.lemmas.List.{length-append, length-map}
 use Rattle.tspdef.specs.Sets.{RisesFrom, IsSet}
-use Rattle.certdef.specs.Items.{Item, title_line, size_line, length_line, tour_line, cuts_line, comb_line, edge_line, leaf_line, city_line, cut_line, condition_line, open_line, words, set_words, line, rises, each_below, is_set, is_dual, in_bounds, longest, fits}
+use Rattle.certdef.specs.Items.{Item, title_line, size_line, length_line, bound_line, tour_line, cuts_line, comb_line, odd_line, pair_line, edge_line, leaf_line, city_line, cut_line, condition_line, open_line, words, set_words, line, rises, each_below, is_set, is_dual, in_bounds, longest, fits}
 use Rattle.certform.specs.Written.{from_one}
 use Rattle.certform.proofs.Sorting.{rises_again}
 use Rattle.certform.proofs.LineLemmas.{spaced, joined}
@@ -52,14 +52,17 @@ fits_two n x w a b e l m p q =
 
 -- ---- each kind of line
 
-pub fits_title : (n : ℕ) → fits n title_line ≡ true
-fits_title n = fits_number n title_line (codes "TSPCERT") (codes "1") refl (omega arith) (omega arith) refl
+pub fits_title : (n v : ℕ) → 1 ≤ v → v ≤ 2 → fits n (title_line v) ≡ true
+fits_title n v a b = fits_number n (title_line v) (codes "TSPCERT") (decimal v) refl (omega arith) (let d = digits v (omega arith) in omega arith) (and_from (nat_lt 0 v) (nat_le v 2) (lt-ltb 0 v a) (le-leb v 2 b))
 
 pub fits_size : (n : ℕ) → n ≤ 2000 → fits n (size_line n) ≡ true
 fits_size n few = fits_number n (size_line n) (codes "N") (decimal n) refl (omega arith) (let d = digits n (omega arith) in omega arith) (lt-ltb n (2 ^ 32) (omega arith))
 
 pub fits_length : (n l : ℕ) → l ≤ 2 ^ 42 → fits n (length_line l) ≡ true
 fits_length n l few = fits_number n (length_line l) (codes "LENGTH") (decimal l) refl (omega arith) (let d = digits l (omega arith) in omega arith) (le-leb l (2 ^ 42) few)
+
+pub fits_bound : (n b : ℕ) → b ≤ 2 ^ 42 → fits n (bound_line b) ≡ true
+fits_bound n b few = fits_number n (bound_line b) (codes "BOUND") (decimal b) refl (omega arith) (let d = digits b (omega arith) in omega arith) (le-leb b (2 ^ 42) few)
 
 each_small : (cs : List ℕ) → AllByRecursion (λ c. c < 10000) cs → each_below (10 ^ 10) cs ≡ true
 each_small [] h = refl
@@ -75,6 +78,16 @@ fits_count n k few = fits_number n (cuts_line k) (codes "CUTS") (decimal k) refl
 
 pub fits_comb : (n t : ℕ) → t ≤ 2000 → fits n (comb_line t) ≡ true
 fits_comb n t few = fits_number n (comb_line t) (codes "C") (decimal t) refl (omega arith) (let d = digits t (omega arith) in omega arith) (le-leb t 2000 few)
+
+pub fits_odd : (n t : ℕ) → 1 ≤ t → t ≤ 4095 → fits n (odd_line t) ≡ true
+fits_odd n t some few = fits_number n (odd_line t) (codes "B") (decimal t) refl (omega arith) (let d = digits t (omega arith) in omega arith) (and_from (nat_lt 0 t) (nat_le t 4095) (lt-ltb 0 t some) (le-leb t 4095 few))
+
+pub fits_pair : (n u v : ℕ) → n ≤ 2000 → u < v → v < n → fits n (pair_line (u + 1) (v + 1)) ≡ true
+fits_pair n u v few l m =
+    fits_two n (pair_line (u + 1) (v + 1)) (codes "F") (decimal (u + 1)) (decimal (v + 1)) refl (omega arith)
+    (let d = digits (u + 1) (omega arith) in omega arith) (let d = digits (v + 1) (omega arith) in omega arith)
+    (and_from (nat_lt 0 (u + 1)) (nat_lt (u + 1) (v + 1) && nat_le (v + 1) n) (lt-ltb 0 (u + 1) (omega arith))
+    (and_from (nat_lt (u + 1) (v + 1)) (nat_le (v + 1) n) (lt-ltb (u + 1) (v + 1) (omega arith)) (le-leb (v + 1) n (omega arith))))
 
 pub fits_edge : (n u v : ℕ) → n ≤ 2000 → u < v → v < n → fits n (edge_line (u + 1) (v + 1)) ≡ true
 fits_edge n u v few l m =

@@ -1,28 +1,29 @@
 -- A value that is written is of the grammar.
-use Rattle.std.proofs.Common.{◌≡◌, ℕ, zero, suc, ◌+◌, ◌-◌, ◌*◌, ◌^◌, ◌<◌, ◌≤◌, true, List, [], ◌∷◌, ◌++◌, length, map, refl, sym, ap, ◌∙◌, subst, arith, length-append}
-use Rattle.std.specs.Prelude.{nat_abs, nat_le, ◌==◌, ℤ, Option, Some, None, slice_get, codes}
+use Rattle.std.proofs.Common.{◌≡◌, ℕ, zero, suc, ◌+◌, ◌-◌, ◌*◌, ◌^◌, ◌<◌, ◌≤◌, true, List, [], ◌∷◌, ◌++◌, length, map, refl, sym, ap, ◌∙◌, subst, arith, length-append, ⊎_elim}
+use Rattle.std.specs.Prelude.{nat_abs, nat_lt, nat_le, ◌%◌, ◌&&◌, ◌||◌, ◌==◌, ℤ, Option, Some, None, slice_get, codes}
 use Rattle.std.specs.List.{AllByRecursion, flat_map}
-use Rattle.std.proofs.lemmas.Bool.{and_from, and_parts, leb-true, cond_both, eqb-false, false≢true}
+use Rattle.std.proofs.lemmas.Bool.{and_from, and_parts, or_left, or_right, leb-true, lt-ltb, eq-eqb, cond_both, eqb-false, false≢true}
 use Rattle.std.proofs.lemmas.List.{length-map}
 use Rattle.tspdef.specs.Sets.{meet}
-use Rattle.tspdef.specs.Cuts.{Cut, subtour, comb, IsTooth, IsCut}
+use Rattle.tspdef.specs.Cuts.{Cut, subtour, comb, odd, IsTooth, IsCut}
+use Rattle.tspdef.specs.Fixed.{IsPairBefore, PairsRise, AreRisingPairs}
 use Rattle.tspdef.specs.Paths.{Condition, fixed, absent, present, two, four, branches, condition_at, IsClique}
 use Rattle.tspdef.proofs.RootLemmas.{branches_join}
 use Rattle.tspdef.specs.Closings.{Closing, IsDualSize, DepthsRise, NamesCliques, Fits}
 use Rattle.tspdef.specs.Trees as trees
 use Rattle.tspdef.specs.Trees.{Tree, open_leaves, settled}
 use Rattle.tspdef.proofs.SmallCuts.{cuts_are_small}
-use Rattle.certdef.specs.Items.{Item, subtour_line, handle_line, tooth_line, clique_line, line, rises, in_bounds, longest, fits}
-use Rattle.certdef.specs.Proofs.{listed_items, city_item, cut_item, condition_item, tree_items, ended}
-use Rattle.certdef.specs.Accepted.{firsts, is_clique, name_cliques, RisesIn, LeavesRise, DepthsName}
-use Rattle.certform.specs.Written.{from_one, listed, written_cities, written_cuts, written_leaf, written_tree, number_of}
+use Rattle.certdef.specs.Items.{Item, subtour_line, handle_line, tooth_line, clique_line, line, rises, is_before, pairs_rise_from, pairs_rise, in_bounds, longest, fits}
+use Rattle.certdef.specs.Proofs.{Listed, listed_items, pair_item, city_item, cut_item, condition_item, tree_items, ended}
+use Rattle.certdef.specs.Accepted.{firsts, is_clique, name_cliques, rises_in_cut, RisesIn, LeavesRise, DepthsName}
+use Rattle.certform.specs.Written.{from_one, pair_from_one, listed, written_cities, written_cuts, written_leaf, written_tree, number_of}
 use Rattle.certform.specs.Lines.{said}
 use Rattle.certform.specs.Faithful.{IsFitting}
 use Rattle.certform.proofs.Numbering.{HasAllOf, number_some, number_within}
 use Rattle.certform.specs.Listing.{AreListed}
 use Rattle.certform.proofs.Sorting.{all-put_in, length-written_cuts, numbers_rise, rises_again}
 use Rattle.certform.proofs.Again.{less_one, cities_again}
-use Rattle.certform.proofs.Spelling.{fits_comb, fits_edge, fits_leaf, fits_city, fits_cut, fits_condition, fits_open, fits_set, set_is_set}
+use Rattle.certform.proofs.Spelling.{fits_comb, fits_odd, fits_pair, fits_edge, fits_leaf, fits_city, fits_cut, fits_condition, fits_open, fits_set, set_is_set}
 
 abbrev pub AllFit : ℕ → List Item → Type 0
 AllFit n xs = AllByRecursion (λ x. fits n x ≡ true) xs
@@ -42,6 +43,38 @@ teeth_fit n h [] few k = tt
 teeth_fit n h (t ∷ ts) few k =
     (fits_set n (tooth_line (from_one t)) (codes "T") t few k.0.set refl (omega arith) (set_is_set n t k.0.set (meets_some t h k.0.inside)), teeth_fit n h ts few k.1)
 
+pairs_fit : (n : ℕ) (ps : List (ℕ × ℕ)) → n ≤ 2000 → AllByRecursion (λ p. (p.0 < p.1) × (p.1 < n)) ps → AllFit n (map pair_item (map pair_from_one ps))
+pairs_fit n [] few h = tt
+pairs_fit n (p ∷ ps) few h = (fits_pair n p.0 p.1 few h.0.0 h.0.1, pairs_fit n ps few h.1)
+
+-- pairs that rise do so when their cities are counted from 1
+is_before_one : (p q : ℕ × ℕ) → IsPairBefore p q → is_before (pair_from_one p) (pair_from_one q) ≡ true
+is_before_one p q h = ⊎_elim
+    (λ a. or_left (nat_lt (p.0 + 1) (q.0 + 1)) (((p.0 + 1) == (q.0 + 1)) && nat_lt (p.1 + 1) (q.1 + 1)) (lt-ltb (p.0 + 1) (q.0 + 1) (omega arith)))
+    (λ b. let e = b.0 in let l = b.1 in or_right (nat_lt (p.0 + 1) (q.0 + 1)) (((p.0 + 1) == (q.0 + 1)) && nat_lt (p.1 + 1) (q.1 + 1))
+        (and_from ((p.0 + 1) == (q.0 + 1)) (nat_lt (p.1 + 1) (q.1 + 1)) (eq-eqb (p.0 + 1) (q.0 + 1) (omega arith)) (lt-ltb (p.1 + 1) (q.1 + 1) (omega arith))))
+    h
+
+rise_from_one : (p : ℕ × ℕ) (ps : List (ℕ × ℕ)) → PairsRise p ps → pairs_rise_from (pair_from_one p) (map pair_from_one ps) ≡ true
+rise_from_one p [] h = refl
+rise_from_one p (q ∷ qs) h = and_from (is_before (pair_from_one p) (pair_from_one q)) (pairs_rise_from (pair_from_one q) (map pair_from_one qs)) (is_before_one p q h.0) (rise_from_one q qs h.1)
+
+rise_one : (ps : List (ℕ × ℕ)) → AreRisingPairs ps → pairs_rise (map pair_from_one ps) ≡ true
+rise_one [] h = refl
+rise_one (p ∷ ps) h = rise_from_one p ps h
+
+cut_rises : (n : ℕ) (c : Cut) → IsCut n c → rises_in_cut (listed c) ≡ true
+cut_rises n (subtour m s) k = refl
+cut_rises n (comb m h ts) k = refl
+cut_rises n (odd m h ps) k = rise_one ps k.1.rising
+
+pub cuts_rise : (n : ℕ) (cs : List Cut) → AllByRecursion (IsCut n) cs → AllByRecursion (λ c. rises_in_cut c ≡ true) (map listed cs)
+cuts_rise n [] h = tt
+cuts_rise n (c ∷ cs) h = (cut_rises n c h.0, cuts_rise n cs h.1)
+
+some_odd : (k : ℕ) → k % 2 ≡ 1 → 1 ≤ k
+some_odd k h = omega arith
+
 cut_fits : (n : ℕ) (c : Cut) → n ≤ 2000 → IsCut n c → AllFit n (listed_items (listed c))
 cut_fits n (subtour m s) few k =
     let p = k.1 in (fits_set n (subtour_line (from_one s)) (codes "S") s few p.set refl (omega arith) (set_is_set n s p.set p.some), tt)
@@ -55,18 +88,32 @@ cut_fits n (comb m h ts) few k =
         teeth_fit n h ts few k.1.each_tooth,
       ),
     )
+cut_fits n (odd m h ps) few k =
+    let p = k.1.proper in
+    let small = k.1.few in
+    let some = some_odd (length ps) k.1.odd in
+    let l = length-map ps pair_from_one in (
+      fits_odd n (length (map pair_from_one ps)) (omega arith) (omega arith),
+      (
+        fits_set n (handle_line (from_one h)) (codes "H") h few p.set refl (omega arith) (set_is_set n h p.set p.some),
+        pairs_fit n ps few k.1.below,
+      ),
+    )
 
 pub cuts_fit : (n : ℕ) (cs : List Cut) → n ≤ 2000 → AllByRecursion (IsCut n) cs → AllFit n (flat_map listed_items (map listed cs))
 cuts_fit n [] few h = tt
 cuts_fit n (c ∷ cs) few h = all_join n (listed_items (listed c)) (flat_map listed_items (map listed cs)) (cut_fits n c few h.0) (cuts_fit n cs few h.1)
 
-cut_length : (n : ℕ) (c : Cut) → n ≤ 2000 → IsCut n c → length (listed_items (listed c)) ≤ 2002
+cut_length : (n : ℕ) (c : Cut) → n ≤ 2000 → IsCut n c → length (listed_items (listed c)) ≤ 4097
 cut_length n (subtour m s) few k = omega arith
 cut_length n (comb m h ts) few k =
     let small = (cuts_are_small n (comb m h ts) k).right in
     let l = length-map ts from_one in let j = length-map (map from_one ts) tooth_line in omega arith
+cut_length n (odd m h ps) few k =
+    let small = k.1.few in
+    let l = length-map ps pair_from_one in let j = length-map (map pair_from_one ps) pair_item in omega arith
 
-pub cuts_length : (n : ℕ) (cs : List Cut) → n ≤ 2000 → AllByRecursion (IsCut n) cs → length (flat_map listed_items (map listed cs)) ≤ 2002 * length cs
+pub cuts_length : (n : ℕ) (cs : List Cut) → n ≤ 2000 → AllByRecursion (IsCut n) cs → length (flat_map listed_items (map listed cs)) ≤ 4097 * length cs
 cuts_length n [] few h = omega arith
 cuts_length n (c ∷ cs) few h =
     let one = cut_length n c few h.0 in let ih = cuts_length n cs few h.1 in

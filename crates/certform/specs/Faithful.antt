@@ -37,20 +37,21 @@ AreAlike (edge_split u v a b) (edge_split x y c d) = ((x ≡ u) × (y ≡ v)) ×
 AreAlike (clique_split s a b) (clique_split r c d) = (r ≡ s) × (AreAlike a c × AreAlike b d)
 AreAlike _ _ = ⊥
 
-pub record IsFaithful (i : Instance) (l : ℕ) (t : Tree) (p : Proof) : Type 0 where
+pub record IsFaithful (i : Instance) (l b : ℕ) (t : Tree) (p : Proof) : Type 0 where
   pub form : HasForm i.n p
-  pub sound : IsSoundProof i l p
+  pub sound : IsSoundProof i l b p
   pub alike : AreAlike t (tree_in i.n p)
   pub opened : open_leaves (tree_in i.n p) ≡ open_leaves t
   pub settled : settled (tree_in i.n p) ≡ settled t
   pub size : length (text p) ≤ most_bytes
 
--- What is written for a canonical tour of an instance, its length and a sound tree of at most 2^20 nodes, which begins with the
--- instance's fixed pairs, is of the grammar, sound and has the same tree, but for the order of the cuts in a leaf; so it is accepted where no leaf is open.
+-- What is written for a canonical tour of an instance, its length, a bound no greater and a tree of at most 2^20 nodes that is sound
+-- for the bound and begins with the instance's fixed pairs, is of the grammar, sound and has the same tree, but for the order of the
+-- cuts in a leaf; so it is accepted where no leaf is open.
 abbrev pub WrittenIsFaithful : Type 0
-WrittenIsFaithful = (i : Instance) (tour : List ℕ) (l : ℕ) (t : Tree) → IsInstance i → IsTourOf i tour → IsCanonical tour
-    → l ≡ length_in i tour → IsSoundFor i l t → IsFitting i.n (root i) t → open_leaves t + settled t ≤ 1048576
-    → IsFaithful i l t (written i.n tour l t)
+WrittenIsFaithful = (i : Instance) (tour : List ℕ) (l b : ℕ) (t : Tree) → IsInstance i → IsTourOf i tour → IsCanonical tour
+    → l ≡ length_in i tour → b ≤ l → IsSoundFor i b t → IsFitting i.n (root i) t → open_leaves t + settled t ≤ 1048576
+    → IsFaithful i l b t (written i.n tour l b t)
 
 -- A table's tree is fitting, from the path of its fixed pairs on.
 abbrev pub TablesFit : Type 0
@@ -58,4 +59,4 @@ TablesFit = (n : ℕ) (fixed : List (ℕ × ℕ)) (nodes : List Node) → IsTabl
 
 -- What is faithful to a tree without an open leaf is the value of an accepted text.
 abbrev pub FaithfulIsAccepted : Type 0
-FaithfulIsAccepted = (i : Instance) (l : ℕ) (t : Tree) (p : Proof) → IsFaithful i l t p → open_leaves t ≡ 0 → IsAcceptedText i (text p) l
+FaithfulIsAccepted = (i : Instance) (l b : ℕ) (t : Tree) (p : Proof) → IsFaithful i l b t p → open_leaves t ≡ 0 → IsAcceptedText i (text p) l b

@@ -1,23 +1,27 @@
 -- The proof that is written for a tour and a tree: each cut that a leaf names is listed once, in order of first use.
-use Rattle.std.specs.Prelude.{◌≡◌, ℕ, ◌+◌, cond, nat_le, Bool, List, [], ◌∷◌, ◌++◌, map, ℤ, nat_abs, ◌==◌}
+use Rattle.std.specs.Prelude.{◌≡◌, ℕ, ◌+◌, cond, nat_lt, nat_le, Bool, List, [], ◌∷◌, ◌++◌, map, Option, Some, None, ℤ, nat_abs, ◌==◌}
 use Rattle.std.specs.List.{list_any}
 use Rattle.std.specs.Ordering.{eq_by_cmp}
 use Rattle.tspdef.specs.Tours.{IsCanonicalForm}
 use Rattle.tspdef.specs.Instances.{Instance, length_in}
-use Rattle.tspdef.specs.Cuts.{Cut, subtour, comb, cut_cmp}
+use Rattle.tspdef.specs.Cuts.{Cut, subtour, comb, odd, cut_cmp}
 use Rattle.tspdef.specs.Closings.{Closing}
 use Rattle.tspdef.specs.Trees as trees
 use Rattle.tspdef.specs.Trees.{Tree}
-use Rattle.certdef.specs.Proofs.{Listed, subtour_cut, comb_cut, Duals, Written, open_leaf, closed_leaf, edge_split, clique_split, Proof, text}
+use Rattle.certdef.specs.Proofs.{Listed, subtour_cut, comb_cut, odd_cut, Duals, Written, open_leaf, closed_leaf, edge_split, clique_split, Proof, text}
 
 -- cities from 1, of cities from 0
 abbrev pub from_one : List ℕ → List ℕ
 from_one s = map (λ c. c + 1) s
 
+abbrev pub pair_from_one : (ℕ × ℕ) → (ℕ × ℕ)
+pair_from_one p = (p.0 + 1, p.1 + 1)
+
 -- how a cut is listed
 abbrev pub listed : Cut → Listed
 listed (subtour n s) = subtour_cut (from_one s)
 listed (comb n h ts) = comb_cut (from_one h) (map from_one ts)
+listed (odd n h ps) = odd_cut (from_one h) (map pair_from_one ps)
 
 abbrev pub is_same_cut : Cut → Cut → Bool
 is_same_cut a b = eq_by_cmp cut_cmp a b
@@ -70,16 +74,21 @@ written_tree cuts (trees.closed_leaf c) = closed_leaf (written_leaf cuts c)
 written_tree cuts (trees.edge_split u v a b) = edge_split (u + 1) (v + 1) (written_tree cuts a) (written_tree cuts b)
 written_tree cuts (trees.clique_split s a b) = clique_split (from_one s) (written_tree cuts a) (written_tree cuts b)
 
--- the proof of n cities that is written for a tour, a length and a tree
-abbrev pub written : ℕ → List ℕ → ℕ → Tree → Proof
-written n tour l t = record {
+-- a bound is told where it is below the length
+abbrev pub told : ℕ → ℕ → Option ℕ
+told l b = cond (nat_lt b l) (Some b) None
+
+-- the proof of n cities that is written for a tour, a length, a bound and a tree
+abbrev pub written : ℕ → List ℕ → ℕ → ℕ → Tree → Proof
+written n tour l b t = record {
   cities = n;
   long = l;
+  bound = told l b;
   tour = from_one tour;
   cuts = map listed (used_cuts t);
   tree = written_tree (used_cuts t) t;
 }
 
--- the bytes are the text of a tour's canonical form, its length in the instance, and a tree
-abbrev pub IsBody : Instance → List ℕ → Tree → List ℕ → Type 0
-IsBody i tour t bytes = (form : List ℕ) × IsCanonicalForm tour form × (bytes ≡ text (written i.n form (length_in i form) t))
+-- the bytes are the text of a tour's canonical form, its length in the instance, a bound and a tree
+abbrev pub IsBody : Instance → List ℕ → ℕ → Tree → List ℕ → Type 0
+IsBody i tour b t bytes = (form : List ℕ) × IsCanonicalForm tour form × (bytes ≡ text (written i.n form (length_in i form) b t))

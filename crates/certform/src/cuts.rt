@@ -2,12 +2,13 @@
 ghost use Rattle.std.specs.Prelude.{◌≡◌, ◌++◌, ◌<◌, length, map, IfOk, OnOk};
 ghost use Rattle.std.specs.List.{flat_map, AllByRecursion};
 ghost use Rattle.certdef.specs.Items.{tooth_line};
+ghost use Rattle.certdef.specs.Proofs.{pair_item};
 ghost use Rattle.cutform.specs.Cut.{cities_of_each};
-ghost use Rattle.certform.specs.Written.{from_one, with_cuts, number_of};
+ghost use Rattle.certform.specs.Written.{from_one, pair_from_one, with_cuts, number_of};
 ghost use Rattle.certform.specs.Lines.{said, cut_items};
 ghost use Rattle.certform.specs.Walks.{node_cuts};
 
-use crate::lines::{put_comb, put_handle, put_subtour, put_tooth};
+use crate::lines::{put_comb, put_handle, put_odd, put_pair, put_subtour, put_tooth};
 use cutform::{Cut, Kind};
 use cyc::CitySet;
 use indexmap::IndexSet;
@@ -75,7 +76,22 @@ fn put_listed(out: &mut Vec<u8>, cut: &Cut) -> Result<(), AllocError>
             put_handle(out, sets[0].cities())?;
             put_teeth(out, &sets[1..])
         }
+        Kind::Odd => {
+            let pairs = cut.pairs();
+            put_odd(out, pairs.len())?;
+            put_handle(out, sets[0].cities())?;
+            put_pairs(out, pairs)
+        }
     }
+}
+
+fn put_pairs(out: &mut Vec<u8>, pairs: &[(u32, u32)]) -> Result<(), AllocError>
+    ensures { OnOk result (out.new.items ≡ out.old.items ++ said (map pair_item (map pair_from_one pairs.now))) }
+{
+    for (u, v) in pairs {
+        put_pair(out, *u, *v)?;
+    }
+    Ok(())
 }
 
 fn put_teeth(out: &mut Vec<u8>, teeth: &[CitySet]) -> Result<(), AllocError>

@@ -1,16 +1,17 @@
 //! Lines, put behind the bytes so far. Cities come from 0 and are written from 1.
 ghost use Rattle.std.specs.Prelude.{◌≡◌, ◌+◌, ◌++◌, [], ◌∷◌, OnOk};
-ghost use Rattle.certdef.specs.Items.{title_line, size_line, length_line, tour_line, cuts_line, subtour_line, comb_line, handle_line, tooth_line, edge_line, clique_line, leaf_line, city_line, cut_line, condition_line, open_line};
+ghost use Rattle.certdef.specs.Items.{title_line, size_line, length_line, bound_line, tour_line, cuts_line, subtour_line, comb_line, handle_line, tooth_line, odd_line, pair_line, edge_line, clique_line, leaf_line, city_line, cut_line, condition_line, open_line};
 ghost use Rattle.certform.specs.Written.{from_one};
 ghost use Rattle.certform.specs.Lines.{said};
 
 use crate::numbers::{put_cities, put_end, put_number, put_set, put_signed, put_word};
 use std::alloc::AllocError;
 
-pub fn put_title(out: &mut Vec<u8>) -> Result<(), AllocError>
-    ensures { OnOk result (out.new.items ≡ out.old.items ++ said (title_line ∷ [])) }
+pub fn put_title(out: &mut Vec<u8>, version: u32) -> Result<(), AllocError>
+    ensures { OnOk result (out.new.items ≡ out.old.items ++ said (title_line version ∷ [])) }
 {
-    put_word(out, b"TSPCERT 1")?;
+    put_word(out, b"TSPCERT")?;
+    put_number(out, u64::from(version))?;
     put_end(out)
 }
 
@@ -27,6 +28,14 @@ pub fn put_length(out: &mut Vec<u8>, length: u64) -> Result<(), AllocError>
 {
     put_word(out, b"LENGTH")?;
     put_number(out, length)?;
+    put_end(out)
+}
+
+pub fn put_bound(out: &mut Vec<u8>, bound: u64) -> Result<(), AllocError>
+    ensures { OnOk result (out.new.items ≡ out.old.items ++ said (bound_line bound ∷ [])) }
+{
+    put_word(out, b"BOUND")?;
+    put_number(out, bound)?;
     put_end(out)
 }
 
@@ -70,6 +79,23 @@ pub fn put_tooth(out: &mut Vec<u8>, set: &[u32]) -> Result<(), AllocError>
     ensures { OnOk result (out.new.items ≡ out.old.items ++ said (tooth_line (from_one set.now) ∷ [])) }
 {
     put_set(out, b"T", set)
+}
+
+pub fn put_odd(out: &mut Vec<u8>, pairs: usize) -> Result<(), AllocError>
+    ensures { OnOk result (out.new.items ≡ out.old.items ++ said (odd_line pairs ∷ [])) }
+{
+    put_word(out, b"B")?;
+    put_number(out, pairs as u64)?;
+    put_end(out)
+}
+
+pub fn put_pair(out: &mut Vec<u8>, u: u32, v: u32) -> Result<(), AllocError>
+    ensures { OnOk result (out.new.items ≡ out.old.items ++ said (pair_line (u + 1) (v + 1) ∷ [])) }
+{
+    put_word(out, b"F")?;
+    put_number(out, u64::from(u) + 1)?;
+    put_number(out, u64::from(v) + 1)?;
+    put_end(out)
 }
 
 pub fn put_edge(out: &mut Vec<u8>, u: u32, v: u32) -> Result<(), AllocError>

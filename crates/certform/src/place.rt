@@ -1,7 +1,7 @@
 //! Which line must come, and what comes after it.
-ghost use Rattle.std.specs.Prelude.{◌≡◌, ◌+◌, suc, ℕ, ℤ, IfOk, IsErrOf};
+ghost use Rattle.std.specs.Prelude.{◌≡◌, ◌+◌, ◌==◌, if◌then◌else◌, suc, ℕ, ℤ, IfOk, IsErrOf, Some, None};
 ghost use Rattle.certdef.specs.Items.{city_line, cut_line, condition_line};
-ghost use Rattle.verdict.specs.Forms.{at_trees, cuts_then, teeth_then, duals_then, form_dual, form_tree, form_cut, form_step};
+ghost use Rattle.verdict.specs.Forms.{at_tour, at_bound, at_pair, at_trees, cuts_then, teeth_then, pairs_then, comes_behind, duals_then, form_dual, form_tree, form_cut, form_step};
 ghost use Rattle.certline.specs.Said.{said};
 ghost use Rattle.certform.specs.Reading.{left_of, form_of};
 
@@ -23,8 +23,11 @@ pub struct Left {
 #[derive(Clone, Copy)]
 pub enum Place {
     Title,
-    Size,
-    Length,
+    /// The version of the text.
+    Size(u32),
+    Length(u32),
+    /// The bound, in a text of the second version.
+    Bound,
     Tour,
     Count,
     /// A cut, so many after it, and so many before it.
@@ -33,6 +36,10 @@ pub enum Place {
     Handle(u32, u64, u32),
     /// The same of a tooth, and how many teeth are after it.
     Tooth(u32, u64, u32),
+    /// The same of an odd cut's handle, and how many pairs it has.
+    OddHandle(u32, u64, u32),
+    /// The same of a pair, how many pairs are after it, and the last one before it.
+    Pair(u32, u64, u32, Option<(u32, u32)>),
     /// So many trees, and so many cuts are listed.
     Trees(u64, u64),
     /// Lines of a leaf, and then so many trees.
@@ -46,15 +53,19 @@ pub fn after(place: Place, item: &Item) -> Result<Place, LineError>
 {
     match place {
         Place::Title => match item {
-            Item::Cert => Ok(Place::Size),
+            Item::Cert(version) => Ok(Place::Size(*version)),
             _ => Err(LineError::NotALine),
         },
-        Place::Size => match item {
-            Item::N(_) => Ok(Place::Length),
+        Place::Size(version) => match item {
+            Item::N(_) => Ok(Place::Length(version)),
             _ => Err(LineError::NotALine),
         },
-        Place::Length => match item {
-            Item::Length(_) => Ok(Place::Tour),
+        Place::Length(version) => match item {
+            Item::Length(_) => Ok(length_read(version)),
+            _ => Err(LineError::NotALine),
+        },
+        Place::Bound => match item {
+            Item::Bound(_) => Ok(Place::Tour),
             _ => Err(LineError::NotALine),
         },
         Place::Tour => match item {
@@ -74,9 +85,25 @@ pub fn after(place: Place, item: &Item) -> Result<Place, LineError>
             Item::Tooth(_) => teeth_on(more, listed, teeth),
             _ => Err(LineError::NotALine),
         },
+        Place::OddHandle(more, listed, pairs) => match item {
+            Item::Handle(_) => pairs_on(more, listed, pairs, None),
+            _ => Err(LineError::NotALine),
+        },
+        Place::Pair(more, listed, pairs, last) => after_pair(more, listed, pairs, last, item),
         Place::Trees(0, _) => Err(LineError::NotALine),
         Place::Trees(trees, listed) => after_tree(trees - 1, listed, item),
         Place::Duals(trees, listed, left) => after_dual(trees, listed, left, item),
+    }
+}
+
+/// The second version tells a bound behind the length.
+fn length_read(version: u32) -> Place
+    ensures { form_of result ≡ (if version == 1 then at_tour else at_bound) }
+{
+    if version == 1 {
+        Place::Tour
+    } else {
+        Place::Bound
     }
 }
 
@@ -114,6 +141,55 @@ fn teeth_on(more: u32, listed: u64, teeth: u32) -> Result<Place, LineError>
     }
 }
 
+/// So many pairs are to come, and then other cuts.
+fn pairs_on(
+    more: u32,
+    listed: u64,
+    pairs: u32,
+    last: Option<(u32, u32)>,
+) -> Result<Place, LineError>
+    ensures next { IfOk result (λ p. form_of p ≡ pairs_then more listed pairs last) }
+    ensures refused { ¬ IsErrOf result LineError.NotALine }
+{
+    if pairs == 0 {
+        cut_listed(more, listed)
+    } else {
+        Ok(Place::Pair(more, listed, pairs - 1, last))
+    }
+}
+
+/// Whether a pair may come behind the last one, if any.
+fn comes_behind(last: Option<(u32, u32)>, u: u32, v: u32) -> bool
+    ensures { result ≡ comes_behind last (u, v) }
+{
+    match last {
+        None => true,
+        Some((x, y)) => x < u || x == u && y < v,
+    }
+}
+
+fn after_pair(
+    more: u32,
+    listed: u64,
+    pairs: u32,
+    last: Option<(u32, u32)>,
+    item: &Item,
+) -> Result<Place, LineError>
+    ensures next { IfOk result (λ p. form_step (at_pair more listed pairs last) (said item.now) ≡ Some (form_of p)) }
+    ensures refused { IsErrOf result LineError.NotALine → form_step (at_pair more listed pairs last) (said item.now) ≡ None }
+{
+    match item {
+        Item::Pair(u, v) => {
+            if comes_behind(last, *u, *v) {
+                pairs_on(more, listed, pairs, Some((*u, *v)))
+            } else {
+                Err(LineError::NotALine)
+            }
+        }
+        _ => Err(LineError::NotALine),
+    }
+}
+
 /// So many lines of a leaf are to come, and then trees.
 #[tactic(auto, using(crate::proofs::PlaceLemmas::nothing_left, crate::proofs::PlaceLemmas::some_left))]
 fn duals_on(trees: u64, listed: u64, left: Left) -> Place
@@ -133,6 +209,7 @@ fn after_cut(more: u32, listed: u64, item: &Item) -> Result<Place, LineError>
     match item {
         Item::Subtour(_) => cut_listed(more, listed),
         Item::Comb(teeth) => Ok(Place::Handle(more, listed, *teeth)),
+        Item::Odd(pairs) => Ok(Place::OddHandle(more, listed, *pairs)),
         _ => Err(LineError::NotALine),
     }
 }

@@ -2,8 +2,9 @@
 ghost use Rattle.std.specs.Prelude.{◌≡◌, ◌≤◌, ◌++◌, [], ◌∷◌, length, map, IfOk, OnOk};
 ghost use Rattle.tspdef.specs.Instances.{length_in};
 ghost use Rattle.treebook.specs.Tables.{state_at, tree_of};
-ghost use Rattle.certdef.specs.Items.{title_line, size_line, length_line, tour_line};
-ghost use Rattle.certform.specs.Written.{from_one, IsBody};
+ghost use Rattle.certdef.specs.Items.{title_line, size_line, length_line, bound_line, tour_line};
+ghost use Rattle.certdef.specs.Proofs.{head_items};
+ghost use Rattle.certform.specs.Written.{from_one, told, IsBody};
 ghost use Rattle.certform.specs.Lines.{said};
 ghost use Rattle.certform.specs.Listing.{IsReady, AreReady};
 ghost use Rattle.certform.specs.Walks.{state_items, node_items};
@@ -11,7 +12,7 @@ ghost use Rattle.certform.specs.Walks.{state_items, node_items};
 use crate::cuts::{cuts_of, put_cuts};
 use crate::leaf::put_closing;
 use crate::lines::{
-    put_clique, put_count, put_edge, put_length, put_open, put_size, put_title, put_tour,
+    put_bound, put_clique, put_count, put_edge, put_length, put_open, put_size, put_title, put_tour,
 };
 use crate::preorder::preorder;
 use branchx::Branch;
@@ -22,9 +23,9 @@ use std::alloc::{AllocError, Global};
 use treebook::{State, Tree};
 use tspinst::Instance;
 
-/// The bytes of the proof of a tour and a tree: the tour in its canonical form with its length, each distinct cut that a
-/// closed leaf names, in order of first use, and the tree in preorder. A tree with an open leaf has a body too: it is what a
-/// search goes on from.
+/// The bytes of the proof of a tour, a tree and a bound: the tour in its canonical form with its length, the bound where it is below
+/// the length (a text of the second version), each distinct cut that a closed leaf names, in order of first use, and the tree in
+/// preorder. A tree with an open leaf has a body too: it is what a search goes on from.
 ///
 /// Two passes go over the nodes in preorder: the first numbers the cuts, the second writes the lines. O(size of the text) and
 /// O(nodes), and a sort in each leaf.
@@ -33,17 +34,18 @@ pub fn body(
     instance: &Instance,
     tour: &Tour,
     tree: &Tree,
+    bound: u64,
 ) -> Result<Vec<u8>, AllocError>
     requires cities { length tour.now ≡ instance.now.n }
     requires nodes { tree.now.n ≡ instance.now.n }
     requires few { length tree.now.nodes ≤ 1048576 }
-    ensures { IfOk result (λ b. IsBody instance.now tour.now (tree_of tree.now.nodes) b.items) }
+    ensures { IfOk result (λ b. IsBody instance.now tour.now bound (tree_of tree.now.nodes) b.items) }
 {
     let order = preorder(alloc, tree)?;
     let cuts = cuts_of(alloc, tree, &order)?;
     let form = tour.canonical(alloc)?;
     let mut out = Vec::new(alloc);
-    put_head(&mut out, instance, &form)?;
+    put_head(&mut out, instance, &form, bound)?;
     put_count(&mut out, cuts.len())?;
     put_cuts(&mut out, &cuts)?;
     put_nodes(alloc, &mut out, &cuts, tree, &order)?;
@@ -51,15 +53,46 @@ pub fn body(
 }
 
 /// Puts the lines in front of the cuts.
-fn put_head(out: &mut Vec<u8>, instance: &Instance, form: &Tour) -> Result<(), AllocError>
+fn put_head(
+    out: &mut Vec<u8>,
+    instance: &Instance,
+    form: &Tour,
+    bound: u64,
+) -> Result<(), AllocError>
     requires { length form.now ≡ instance.now.n }
-    ensures { OnOk result (out.new.items ≡ out.old.items ++ said (title_line ∷ size_line instance.now.n
-        ∷ length_line (length_in instance.now form.now) ∷ tour_line (from_one form.now) ∷ [])) }
+    ensures { OnOk result (out.new.items ≡ out.old.items
+        ++ said (head_items instance.now.n (length_in instance.now form.now) (told (length_in instance.now form.now) bound) ++ tour_line (from_one form.now) ∷ [])) }
 {
-    put_title(out)?;
-    put_size(out, instance.n())?;
-    put_length(out, instance.length(form))?;
+    put_numbers(out, instance.n(), instance.length(form), bound)?;
     put_tour(out, form.cities())
+}
+
+/// Puts the lines in front of the tour: those of the second version where the bound is below the length.
+fn put_numbers(out: &mut Vec<u8>, n: u32, length: u64, bound: u64) -> Result<(), AllocError>
+    ensures { OnOk result (out.new.items ≡ out.old.items ++ said (head_items n length (told length bound))) }
+{
+    if bound < length {
+        put_told(out, n, length, bound)
+    } else {
+        put_untold(out, n, length)
+    }
+}
+
+fn put_told(out: &mut Vec<u8>, n: u32, length: u64, bound: u64) -> Result<(), AllocError>
+    ensures { OnOk result (out.new.items ≡ out.old.items ++ said (title_line 2 ∷ size_line n ∷ length_line length ∷ bound_line bound ∷ [])) }
+{
+    put_title(out, 2)?;
+    put_size(out, n)?;
+    put_length(out, length)?;
+    put_bound(out, bound)
+}
+
+fn put_untold(out: &mut Vec<u8>, n: u32, length: u64) -> Result<(), AllocError>
+    ensures { OnOk result (out.new.items ≡ out.old.items ++ said (title_line 1 ∷ size_line n ∷ length_line length ∷ [])) }
+{
+    put_title(out, 1)?;
+    put_size(out, n)?;
+    put_length(out, length)
 }
 
 /// Puts the lines of nodes.

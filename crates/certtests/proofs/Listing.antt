@@ -4,15 +4,15 @@ use Rattle.std.specs.Prelude.{nat_lt, nat_le}
 use Rattle.std.specs.List.{AllByRecursion}
 use Rattle.std.proofs.lemmas.Bool.{and_parts, leb-true, false_from_ne_true, false≢true}
 use Rattle.tspdef.specs.Sets.{RisesFrom, IsSet, IsProper}
-use Rattle.tspdef.specs.Cuts.{Cut, subtour, comb, IsComb, IsCut}
+use Rattle.tspdef.specs.Cuts.{Cut, subtour, comb, odd, IsComb, IsOdd, IsCut}
 use Rattle.certdef.specs.Items.{rises, is_set}
-use Rattle.certdef.specs.Proofs.{subtour_cut, comb_cut}
-use Rattle.certdef.specs.Accepted.{from_zero, cut_of, cuts_of}
+use Rattle.certdef.specs.Proofs.{subtour_cut, comb_cut, odd_cut}
+use Rattle.certdef.specs.Accepted.{from_zero, pair_from_zero, cut_of, cuts_of}
 use Rattle.certdef.specs.Tests.{is_proper, is_cut}
 use Rattle.verdict.proofs.Decisions.{proper_yes, yes_proper, cut_yes, yes_cut}
 use Rattle.cyc.specs.CitySet.{Members}
 use Rattle.cutform.specs.Cut.{cities_of_each}
-use Rattle.certtests.specs.Listed.{to_one, listed}
+use Rattle.certtests.specs.Listed.{to_one, pair_to_one, listed}
 
 -- ---- sets
 
@@ -59,12 +59,22 @@ zeros_of_ones : (ts : List (List ℕ)) → map from_zero (map to_one ts) ≡ ts
 zeros_of_ones [] = refl
 zeros_of_ones (t ∷ ts) = ap (λ x. x ∷ map from_zero (map to_one ts)) (zero_of_one t) ∙ ap (λ xs. t ∷ xs) (zeros_of_ones ts)
 
+pub pairs_of_ones : (ps : List (ℕ × ℕ)) → map pair_from_zero (map pair_to_one ps) ≡ ps
+pairs_of_ones [] = refl
+pairs_of_ones (p ∷ ps) =
+    let e : p.0 + 1 - 1 ≡ p.0 = omega arith in
+    let f : p.1 + 1 - 1 ≡ p.1 = omega arith in
+    ap (λ x. (x, p.1 + 1 - 1) ∷ map pair_from_zero (map pair_to_one ps)) e ∙ (ap (λ x. (p.0, x) ∷ map pair_from_zero (map pair_to_one ps)) f ∙ ap (λ xs. p ∷ xs) (pairs_of_ones ps))
+
 -- the cut that is listed is the cut again
 pub cut_again : (n : ℕ) (c : Cut) → IsCut n c → cut_of n (listed c) ≡ c
 cut_again n (subtour m s) k = ap (λ t. subtour n t) (zero_of_one s) ∙ ap (λ j. subtour j s) (sym k.0)
 cut_again n (comb m h ts) k =
     ap (λ t. comb n t (map from_zero (map to_one ts))) (zero_of_one h)
     ∙ (ap (λ us. comb n h us) (zeros_of_ones ts) ∙ ap (λ j. comb j h ts) (sym k.0))
+cut_again n (odd m h ps) k =
+    ap (λ t. odd n t (map pair_from_zero (map pair_to_one ps))) (zero_of_one h)
+    ∙ (ap (λ us. odd n h us) (pairs_of_ones ps) ∙ ap (λ j. odd j h ps) (sym k.0))
 
 pub cuts_again : (n : ℕ) (cs : List Cut) → AllByRecursion (IsCut n) cs → cuts_of n (map listed cs) ≡ cs
 cuts_again n [] k = refl
@@ -100,3 +110,13 @@ comb_fails n h ts refuted =
 
 pub comb_listed : (n : ℕ) (c : Cut) (h : List ℕ) (ts : List Members) → c ≡ comb n h (cities_of_each ts) → listed c ≡ comb_cut (to_one h) (map (λ t. to_one t.cities) ts)
 comb_listed n c h ts e = ap listed e ∙ ap (λ us. comb_cut (to_one h) us) (teeth_listed ts)
+
+-- an odd cut of cities from 1
+odd_again : (n : ℕ) (h : List ℕ) (ps : List (ℕ × ℕ)) → is_cut n (cut_of n (odd_cut (to_one h) (map pair_to_one ps))) ≡ is_cut n (odd n h ps)
+odd_again n h ps = ap (λ t. is_cut n (odd n t (map pair_from_zero (map pair_to_one ps)))) (zero_of_one h) ∙ ap (λ us. is_cut n (odd n h us)) (pairs_of_ones ps)
+
+pub odd_passes : (n : ℕ) (h : List ℕ) (ps : List (ℕ × ℕ)) → IsOdd n h ps → is_cut n (cut_of n (odd_cut (to_one h) (map pair_to_one ps))) ≡ true
+odd_passes n h ps p = odd_again n h ps ∙ yes_cut n (odd n h ps) (refl, p)
+
+pub odd_fails : (n : ℕ) (h : List ℕ) (ps : List (ℕ × ℕ)) → (IsOdd n h ps → ⊥) → is_cut n (cut_of n (odd_cut (to_one h) (map pair_to_one ps))) ≡ false
+odd_fails n h ps refuted = odd_again n h ps ∙ false_from_ne_true (is_cut n (odd n h ps)) (λ e. refuted (cut_yes n (odd n h ps) e).1)

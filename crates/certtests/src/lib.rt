@@ -12,7 +12,7 @@ mod sets;
 mod steps;
 mod tours;
 
-pub use cuts::{comb, subtour};
+pub use cuts::{comb, odd, subtour};
 pub use leaves::{closes, names_clique};
 pub use sets::{city_set, is_proper};
 pub use tours::{canonical_tour, has_length};

@@ -1,12 +1,13 @@
 -- What values add up to over a cut, entry by entry, and how large that is.
 use Rattle.std.proofs.Common.{◌≡◌, ℕ, zero, suc, ◌+◌, ◌*◌, ◌^◌, ◌<◌, ◌≤◌, Bool, true, false, not, cond, List, [], ◌∷◌, length, take, get_or, sum_by, ℤ, leb, pos, ◌-ℤ◌, refl, ap, arith}
 use Rattle.std.specs.Prelude.{◌≤ℤ◌}
+use Rattle.std.proofs.Math.Nat.{mul-le-mul}
 use Rattle.std.proofs.lemmas.Bool.{leb-true, le-leb}
 use Rattle.std.proofs.lemmas.Int.{ints}
 use Rattle.std.proofs.lemmas.List.Elements.{All-from_recursion}
 use Rattle.tspdef.specs.Sets.{has}
 use Rattle.tspdef.specs.Sums.{sum_below, sum_pairs}
-use Rattle.tspdef.specs.Cuts.{Cut, sets_of, right_side, coefficient, IsCut}
+use Rattle.tspdef.specs.Cuts.{Cut, subtour, comb, odd, sets_of, right_side, coefficient, IsCut}
 use Rattle.tspdef.specs.Bounds.{scale, violation}
 use Rattle.tspdef.proofs.SumLemmas.{sum_pairs-le}
 use Rattle.tspdef.proofs.SmallCuts.{cuts_are_small}
@@ -52,24 +53,30 @@ pairs_flat c (suc n) = let ih = pairs_flat c n in let row = below_flat c n in om
 square_few : (n c : ℕ) → n ≤ 2000 → n * n * c ≤ 4000000 * c
 square_few n c h = grind arith
 
--- three times a value at most
-pub thrice : (x c m : ℕ) → x ≤ m → c ≤ 3 → x * c ≤ 3 * m
-thrice x c m h k = grind arith
+-- 3,999 times a value at most
+pub times_most : (x c m : ℕ) → x ≤ m → c ≤ 3999 → x * c ≤ 3999 * m
+times_most x c m h k = let p = mul-le-mul h k in omega (arith, p)
 
-product_case : (x c : ℕ) → x ≤ 1073741824 → c ≤ 3 → pos (x * c) ≤ℤ pos 3221225472
-product_case x c h k = let t = thrice x c 1073741824 h k in omega (arith, ints, t)
+product_case : (x c : ℕ) → x ≤ 1073741824 → c ≤ 3999 → pos (x * c) ≤ℤ pos 4293893554176
+product_case x c h k = let t = times_most x c 1073741824 h k in omega (arith, ints, t)
 
-weight_small : (n : ℕ) (es : List Entry) (ss : List (List ℕ)) → n ≤ 2000 → AreEntries n es → ((u v : ℕ) → coefficient ss u v ≤ 3) → weight_of es ss < 2 ^ 54
+weight_small : (n : ℕ) (es : List Entry) (ss : List (List ℕ)) → n ≤ 2000 → AreEntries n es → ((u v : ℕ) → coefficient ss u v ≤ 3999) → weight_of es ss < 2 ^ 63
 weight_small n es ss few a most =
     let w = sum_is n es ss a in
-    let l = sum_pairs-le (λ u v. pos (value_of es u v * coefficient ss u v)) (λ u v. pos 3221225472) n
+    let l = sum_pairs-le (λ u v. pos (value_of es u v * coefficient ss u v)) (λ u v. pos 4293893554176) n
     (λ u v h k. product_case (value_of es u v) (coefficient ss u v) (value_small n es u v a.each) (most u v)) in
-    let m = pairs_flat 3221225472 n in
-    let s = square_few n 3221225472 few in
+    let m = pairs_flat 4293893554176 n in
+    let s = square_few n 4293893554176 few in
     omega (arith, ints, w, l, m, s)
 
-pub weight_fits : (n : ℕ) (es : List Entry) (i : ℕ) (c : Cut) → n ≤ 2000 → AreEntries n es → IsCut n c → weight_of (take i es) (sets_of c) < 2 ^ 54
-weight_fits n es i c few a is = weight_small n (take i es) (sets_of c) few (entries_take n i es a) (λ u v. (cuts_are_small n c is).crossed u v)
+-- no cut of 2,000 cities or fewer is crossed more often by a pair
+pub crossed_most : (n : ℕ) (c : Cut) → n ≤ 2000 → IsCut n c → (u v : ℕ) → coefficient (sets_of c) u v ≤ 3999
+crossed_most n (subtour m s) few is u v = let k = (cuts_are_small n (subtour m s) is).crossed u v in omega arith
+crossed_most n (comb m h ts) few is u v = let k = (cuts_are_small n (comb m h ts) is).crossed u v in omega arith
+crossed_most n (odd m h ps) few is u v = let k = (cuts_are_small n (odd m h ps) is).crossed u v in omega arith
+
+pub weight_fits : (n : ℕ) (es : List Entry) (i : ℕ) (c : Cut) → n ≤ 2000 → AreEntries n es → IsCut n c → weight_of (take i es) (sets_of c) < 2 ^ 63
+weight_fits n es i c few a is = weight_small n (take i es) (sets_of c) few (entries_take n i es a) (λ u v. crossed_most n c few is u v)
 
 pub entry_small : (n : ℕ) (es : List Entry) (i : ℕ) (d : Entry) → AreEntries n es → i < length es → (get_or es i d).x ≤ 2 ^ 30
 entry_small n es i d a h = (All-from_recursion (IsEntry n) es a.each i d h).small

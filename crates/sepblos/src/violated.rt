@@ -1,10 +1,10 @@
 //! Combs that values violate.
-ghost use Rattle.std.specs.Prelude.{◌≡◌, ◌<◌, ◌≤◌, ◌*◌, ◌^◌, ◌↔◌, IsTrue, IfOk, IfSome, MatchOption, pos, ◌-ℤ◌, ◌≤ℤ◌};
-ghost use Rattle.tspdef.specs.Cuts.{Cut as AnyCut, sets_of, right_side, coefficient, IsCut};
+ghost use Rattle.std.specs.Prelude.{◌≡◌, ℕ, ◌<◌, ◌≤◌, ◌*◌, ◌^◌, ◌↔◌, ◌||◌, false, IsTrue, IfOk, IfSome, MatchOption, length, map, slice_index_or, pos, ◌-ℤ◌, ◌≤ℤ◌};
+ghost use Rattle.tspdef.specs.Cuts.{Cut as AnyCut, sets_of, pair_set, right_side, coefficient, IsCut};
 ghost use Rattle.tspdef.specs.Bounds.{scale, violation};
 ghost use Rattle.cyc.specs.Frac.{IsEntry, value_of};
 ghost use Rattle.cutform.specs.Cut.{cities_of_each};
-ghost use Rattle.sepblos.specs.Violated.{IsWorth, IsViolatedComb, AreMarksOf};
+ghost use Rattle.sepblos.specs.Violated.{IsWorth, IsViolatedComb, is_in_any, AreMarksOf};
 
 use crate::marks::{is_marked, mark};
 use cutform::{Cut, CutError};
@@ -54,14 +54,38 @@ fn is_violated(alloc: Global, x: &Frac, cut: &Cut) -> Result<bool, AllocError>
 }
 
 /// Which of n cities are in a set of the cut.
+#[tactic(auto, using(crate::proofs::MarkLemmas::marks_of_cut))]
 fn marks_of(alloc: Global, n: u32, cut: &Cut) -> Result<Vec<bool>, AllocError>
     ensures { IfOk result (λ marks. AreMarksOf n cut.now marks.items) }
 {
+    let mut marks = marks_of_sets(alloc, n, cut.sets())?;
+    mark_pairs(&mut marks, cut.pairs());
+    Ok(marks)
+}
+
+/// Which of n cities are in a set.
+fn marks_of_sets(alloc: Global, n: u32, sets: &[CitySet]) -> Result<Vec<bool>, AllocError>
+    ensures { IfOk result (λ marks. (length marks.items ≡ n)
+        × ((c : ℕ) → c < n → slice_index_or marks.items c false ≡ is_in_any (cities_of_each sets.now) c)) }
+{
     let mut marks = vec![in alloc; false; n as usize]?;
-    for set in cut.sets() {
+    for set in sets {
         mark(&mut marks, set.cities());
     }
     Ok(marks)
+}
+
+/// Marks the ends of pairs, but those past the marks.
+fn mark_pairs(marks: &mut [bool], pairs: &[(u32, u32)])
+    ensures long { length marks.new ≡ length marks.old }
+    ensures marked { (c : ℕ) → c < length marks.old
+        → slice_index_or marks.new c false ≡ (slice_index_or marks.old c false || is_in_any (map pair_set pairs.now) c) }
+{
+    let mut rest = pairs;
+    while let Some((pair, more)) = rest.split_first() {
+        mark(marks, &[pair.0, pair.1]);
+        rest = more;
+    }
 }
 
 /// What the values add up to over the pairs, each as often as it crosses a set of the cut, in units.
@@ -69,7 +93,7 @@ fn weight(x: &Frac, cut: &Cut, marks: &[bool]) -> u64
     requires cut { IsCut x.now.n cut.now }
     requires marks { AreMarksOf x.now.n cut.now marks.now }
     ensures missed { violation (value_of x.now.entries) x.now.n cut.now ≡ pos (scale * right_side cut.now) -ℤ pos result }
-    ensures small { result < 2 ^ 54 }
+    ensures small { result < 2 ^ 63 }
 {
     let _n = x.n();
     let mut weight = 0;
@@ -84,7 +108,7 @@ fn crossed(_x: &Frac, cut: &Cut, marks: &[bool], entry: Entry) -> u32
     requires marks { AreMarksOf _x.now.n cut.now marks.now }
     requires entry { IsEntry _x.now.n entry }
     ensures value { result ≡ coefficient (sets_of cut.now) entry.u entry.v }
-    ensures few { result ≤ 3 }
+    ensures few { result ≤ 3999 }
 {
     if !is_marked(marks, entry.u) && !is_marked(marks, entry.v) {
         return 0;

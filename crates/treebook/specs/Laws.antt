@@ -87,6 +87,15 @@ ClosesFor i l nodes = (k : ℕ) (c : Closing) → k < length nodes → state_at 
 abbrev pub ClosedTablesAreSound : Type 0
 ClosedTablesAreSound = (i : Instance) (nodes : List Node) (l : ℕ) → IsTable i.n i.fixed nodes → ClosesFor i l nodes → IsSoundFor i l (tree_of nodes)
 
+abbrev pub SoundTablesClose : Type 0
+SoundTablesClose = (i : Instance) (nodes : List Node) (l : ℕ) → IsTable i.n i.fixed nodes → IsSoundFor i l (tree_of nodes) → ClosesFor i l nodes
+
+-- The greatest bound, at most l, that a tree bears: for which it is sound.
+pub record IsGreatestBound (i : Instance) (l : ℕ) (t : Tree) (b : ℕ) : Type 0 where
+  pub below : b ≤ l
+  pub sound : IsSoundFor i b t
+  pub greatest : (c : ℕ) → c ≤ l → IsSoundFor i c t → c ≤ b
+
 -- What a change of a table keeps: that each tour obeys an open leaf or has length l at least, and that the tree is sound for l.
 pub record KeepsTree (i : Instance) (l : ℕ) (nodes more : List Node) : Type 0 where
   pub covers : Covers i (tree_of nodes) l → Covers i (tree_of more) l

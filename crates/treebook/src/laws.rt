@@ -1,5 +1,5 @@
 //! The laws of tables of nodes.
-ghost use Rattle.treebook.specs.Laws.{FreshIsTable, PathsArePaths, OpenNodesAreOpenLeaves, ClosingKeepsTables, SplittingKeepsTables, ClosingKeepsCovers, SplittingKeepsCovers, ClosingKeepsSound, SplittingKeepsSound, ClosedTablesAreSound, LessIsKept};
+ghost use Rattle.treebook.specs.Laws.{FreshIsTable, PathsArePaths, OpenNodesAreOpenLeaves, ClosingKeepsTables, SplittingKeepsTables, ClosingKeepsCovers, SplittingKeepsCovers, ClosingKeepsSound, SplittingKeepsSound, ClosedTablesAreSound, SoundTablesClose, LessIsKept};
 
 use tspdef::{bound_is_below, trees_cover};
 
@@ -26,12 +26,13 @@ pub fn tables_cover()
     trees_cover();
 }
 
-/// Closing and splitting keep a tree sound, and a table whose closed nodes have bounds that exceed what l needs is sound.
+/// Closing and splitting keep a tree sound, and a table is sound exactly where its closed nodes have bounds that exceed what l needs.
 /// What is so for a length is so for a lesser one.
 pub fn tables_are_sound()
     ensures closing { ClosingKeepsSound }
     ensures splitting { SplittingKeepsSound }
     ensures closed { ClosedTablesAreSound }
+    ensures closes { SoundTablesClose }
     ensures less { LessIsKept }
 {
     bound_is_below();

@@ -7,6 +7,7 @@
 //!   table stands for, and what closing and splitting do to it.
 #![tactic(auto)]
 
+mod borne;
 mod laws;
 mod node;
 mod tree;

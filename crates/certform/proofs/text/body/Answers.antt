@@ -25,7 +25,7 @@ put_nodes-requires c =
 pub returns : goal.returns
 returns c =
     let l = length-map c.in_ok-cuts.cuts.keys (λ (k : Bor Cut). k.now) in
-    body_puts c.args.instance.now c.args.tour.now c.in_ok-form.form (cuts_in c.in_ok-cuts.cuts.keys) c.args.tree.now.nodes c.in_ok-order.order.items c.deref.result.now c.deref-2.result.now c.len.result
+    body_puts c.args.instance.now c.args.tour.now c.in_ok-form.form (cuts_in c.in_ok-cuts.cuts.keys) c.args.tree.now.nodes c.in_ok-order.order.items c.deref.result.now c.deref-2.result.now c.len.result c.args.bound
     c.new-out.result.items c.put_head.new.out.items c.put_count.new.out.items c.put_cuts.new.out.items c.put_nodes.new.out.items
     c.in_ok-order.ensures c.deref.ensures.value c.deref-2.ensures.value c.in_ok-cuts.ensures (omega (arith, c.len.ensures.len))
     c.in_ok-form.ensures c.new-out.ensures.items c.in_ok-put_head.ensures c.in_ok-put_count.ensures c.in_ok-put_cuts.ensures c.in_ok-put_nodes.ensures

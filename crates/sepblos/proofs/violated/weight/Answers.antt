@@ -4,7 +4,7 @@ use Rattle.tspdef.specs.Cuts.{sets_of, right_side}
 use Rattle.tspdef.specs.Bounds.{scale}
 use Rattle.cyc.specs.declared.frac.Entry.{Entry}
 use Rattle.cyc.specs.Frac.{AreEntries}
-use Rattle.sepblos.proofs.WeightLemmas.{weight_of, violation_by_entries, thrice, weight_fits, entry_small}
+use Rattle.sepblos.proofs.WeightLemmas.{weight_of, violation_by_entries, times_most, weight_fits, entry_small}
 use Rattle.sepblos.proofs.violated.weight.Goals as goal
 
 pub overflow_add-weight : goal.overflow_add-weight
@@ -17,7 +17,7 @@ overflow_add-weight c =
     let small = entry_small x.n es c.loop-entry.entry-index (record { u = 0; v = 0; x = 0 }) (subst (AreEntries x.n) (sym are.value) are.entries) c.loop-entry-test.true in
     let sum = weight_fits x.n x.entries c.loop-entry.entry-index c.args.cut.now (omega arith) are.entries c.requires.cut in
     let coef = c.crossed.ensures.few in
-    let one = thrice c.from.result c.from-in-loop-entry.result 1073741824 (omega (arith, small, c.from.ensures)) (omega (arith, coef, c.from-in-loop-entry.ensures)) in
+    let one = times_most c.from.result c.from-in-loop-entry.result 1073741824 (omega (arith, small, c.from.ensures)) (omega (arith, coef, c.from-in-loop-entry.ensures)) in
     omega (arith, sum, one, c.loop-entry.invariant)
 
 pub returns-clause-small : goal.returns-clause-small

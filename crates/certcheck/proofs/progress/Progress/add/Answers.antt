@@ -19,5 +19,5 @@ pub returns : goal.returns
 returns c =
     let s = c.args.self.now in
     let i = c.args.instance.now in
-    subst (λ (xs : List Listed). Goes i.n c.cuts_on.result c.cuts_on.new.self (spec.go (spec.cuts_on (verifier i) (record { long = s.long; cuts = xs }) c.args.left)))
+    subst (λ (xs : List Listed). Goes i.n c.cuts_on.result c.cuts_on.new.self (spec.go (spec.cuts_on (verifier i) (record { long = s.long; bound = s.bound; cuts = xs }) c.args.left)))
     (ap (map listed) c.in_ok-push.ensures.items ∙ map-append listed s.cuts.items (c.args.cut ∷ [])) c.cuts_on.ensures

@@ -1,7 +1,7 @@
 use Rattle.std.proofs.Common.{◌≡◌, ℕ, ◌<◌, false, length, take, slice_index_or}
 use Rattle.cutform.specs.Cut.{cities_of_each}
 use Rattle.sepblos.specs.Violated.{is_in_any}
-use Rattle.sepblos.proofs.violated.marks_of.Given as goal
+use Rattle.sepblos.proofs.violated.marks_of_sets.Given as goal
 
 abbrev pub invariant-loop-set : goal.invariant-loop-set
 invariant-loop-set l = record {

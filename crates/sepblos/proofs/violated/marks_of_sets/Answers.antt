@@ -2,7 +2,7 @@ use Rattle.std.proofs.Common.{◌≡◌, ◌||◌, false, length, slice_index_or
 use Rattle.std.proofs.lemmas.List.{with_items_is}
 use Rattle.tspdef.specs.Sets.{has}
 use Rattle.sepblos.proofs.MarkLemmas.{any_more}
-use Rattle.sepblos.proofs.violated.marks_of.Goals as goal
+use Rattle.sepblos.proofs.violated.marks_of_sets.Goals as goal
 
 pub loop-set-preserved : goal.loop-set-preserved
 loop-set-preserved c =
