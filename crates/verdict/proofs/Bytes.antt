@@ -5,7 +5,7 @@ use Rattle.std.proofs.lemmas.Bool.{and_parts, eqb-true, ne_eqb, leb-true, leb-fa
 use Rattle.certdef.specs.Items.{Item, line, longest, in_bounds, item_of}
 use Rattle.certdef.specs.Proofs.{ended, text_of, lines}
 use Rattle.certdef.specs.Tests.{Tests, verifier}
-use Rattle.certdef.specs.Verdicts.{Stage, wants_title, wants_size, wants_length, wants_tour, wants_count, wants_cut, wants_handle, wants_tooth, wants_trees, wants_duals, yes, no, Outcome, go, refused, line_step, is_end, at_end, run}
+use Rattle.certdef.specs.Verdicts.{Stage, wants_title, wants_size, wants_length, wants_bound, wants_tour, wants_count, wants_cut, wants_handle, wants_tooth, wants_odd_handle, wants_pair, wants_trees, wants_duals, yes, no, Outcome, go, refused, line_step, is_end, at_end, run}
 use Rattle.certdef.specs.Bytes.{Reading, Read, reads, stops, start, line_on, byte_on, bytes_on, verdict_at_end}
 use Rattle.certdef.specs.Accepted.{most_bytes}
 use Rattle.verdict.proofs.Lines.{InLine, item_said, line_plain, small_if}

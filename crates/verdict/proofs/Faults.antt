@@ -9,11 +9,11 @@ use Rattle.tspdef.specs.Instances.{Instance, length_in}
 use Rattle.tspdef.specs.Cuts.{subtour, comb}
 use Rattle.tspdef.specs.Paths.{Condition, absent, present, two, four, condition_at, is_decided}
 use Rattle.tspdef.specs.Bounds.{bound, needed}
-use Rattle.certdef.specs.Items.{Item, title_line, size_line, length_line, tour_line, cuts_line, subtour_line, comb_line, handle_line, tooth_line, edge_line, clique_line, leaf_line, city_line, cut_line, condition_line, open_line, rises, is_set, in_bounds, fits, longest, line}
-use Rattle.certdef.specs.Proofs.{subtour_cut, comb_cut}
+use Rattle.certdef.specs.Items.{Item, title_line, size_line, length_line, bound_line, tour_line, cuts_line, subtour_line, comb_line, handle_line, tooth_line, odd_line, pair_line, edge_line, clique_line, leaf_line, city_line, cut_line, condition_line, open_line, rises, is_set, in_bounds, fits, longest, line}
+use Rattle.certdef.specs.Proofs.{subtour_cut, comb_cut, odd_cut}
 use Rattle.certdef.specs.Accepted.{from_zero, cuts_of, closing_of, is_clique}
 use Rattle.certdef.specs.Tests.{verifier, is_tour_from_one, is_proper, is_cut, closes_leaf}
-use Rattle.certdef.specs.Verdicts.{Head, OpenDuals, Stage, wants_title, wants_size, wants_length, wants_tour, wants_count, wants_cut, wants_handle, wants_tooth, wants_trees, wants_duals, Outcome, go, refused, after, with_cut, cuts_on, teeth_on, duals_on, with_city, with_cut_dual, with_condition, fresh_duals, on_title, on_size, on_length, on_tour, on_count, on_cut, on_handle, on_tooth, on_tree, on_dual, is_end, line_step}
+use Rattle.certdef.specs.Verdicts.{Head, OpenDuals, Stage, wants_title, wants_size, wants_length, wants_bound, wants_tour, wants_count, wants_cut, wants_handle, wants_tooth, wants_odd_handle, wants_pair, wants_trees, wants_duals, Outcome, go, refused, after, with_cut, cuts_on, teeth_on, pairs_on, duals_on, with_city, with_cut_dual, with_condition, fresh_duals, on_title, on_size, on_length, on_bound, on_tour, on_count, on_cut, on_handle, on_tooth, on_odd_handle, on_pair, on_tree, on_dual, is_end, line_step}
 use Rattle.verdict.specs.Faults.{IsOfForm, comb_with, leaf_with, Fault, not_a_proof, other_size, not_a_tour, wrong_length, set_of_all, not_a_comb, decided_edge, weak_leaf, open_leaf, trailing}
 use Rattle.verdict.proofs.Lines.{rises_length}
 use Rattle.verdict.proofs.Decisions.{tour_from_one_yes, yes_tour_from_one, yes_proper, yes_cut, yes_clique}

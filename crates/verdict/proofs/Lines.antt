@@ -14,7 +14,7 @@ use Rattle.std.proofs.lemmas.Bool.Decides.{nat_tests}
 use Rattle.std.proofs.lemmas.List.Elements.{All-from_recursion}
 use Rattle.std.proofs.lemmas.List.Splits.{slice_split_none, slice_split_at}
 use Rattle.std.proofs.lemmas.Slice.Eq.{bytes_eq-Decides}
-use Rattle.certdef.specs.Items.{Item, title_line, size_line, length_line, tour_line, cuts_line, subtour_line, comb_line, handle_line, tooth_line, edge_line, clique_line, leaf_line, city_line, cut_line, condition_line, open_line, set_words, words, line, rises, each_below, is_set, is_dual, in_bounds, fits, value, values, only_item, item_of, longest}
+use Rattle.certdef.specs.Items.{Item, title_line, size_line, length_line, bound_line, tour_line, cuts_line, subtour_line, comb_line, handle_line, tooth_line, odd_line, pair_line, edge_line, clique_line, leaf_line, city_line, cut_line, condition_line, open_line, set_words, words, line, rises, each_below, is_set, is_dual, in_bounds, fits, value, values, only_item, item_of, longest}
 use Rattle.verdict.specs.Laws.{LinesAreExact}
 
 -- ---- words that fit machine numbers

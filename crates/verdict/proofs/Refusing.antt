@@ -5,7 +5,7 @@ use Rattle.std.proofs.lemmas.Bool.{and_parts, leb-true, leb-false, eqb-true}
 use Rattle.tspdef.specs.Instances.{Instance}
 use Rattle.certdef.specs.Items.{Item, line, longest, in_bounds, fits, item_of}
 use Rattle.certdef.specs.Tests.{Tests, verifier}
-use Rattle.certdef.specs.Verdicts.{Stage, wants_title, wants_size, wants_length, wants_tour, wants_count, wants_cut, wants_handle, wants_tooth, wants_trees, wants_duals, yes, no, Outcome, go, refused, line_step, is_end, at_end}
+use Rattle.certdef.specs.Verdicts.{Stage, wants_title, wants_size, wants_length, wants_bound, wants_tour, wants_count, wants_cut, wants_handle, wants_tooth, wants_odd_handle, wants_pair, wants_trees, wants_duals, yes, no, Outcome, go, refused, line_step, is_end, at_end}
 use Rattle.certdef.specs.Bytes.{Reading, Read, reads, stops, start, line_on, byte_on, bytes_on, end_of, verdict_at_end, verdict}
 use Rattle.certdef.specs.Accepted.{IsAcceptedText, most_bytes}
 use Rattle.verdict.specs.Faults.{Fault, not_a_proof, other_size, not_a_tour, wrong_length, set_of_all, not_a_comb, decided_edge, weak_leaf, open_leaf, trailing}

@@ -2,7 +2,7 @@
 use Rattle.std.proofs.Common.{◌≡◌, ℕ, ◌+◌, ◌^◌, ◌<◌, true, List, [], ◌∷◌, ◌++◌, length, map, Option, Some, None, refl, sym, ap, ◌∙◌, subst}
 use Rattle.std.specs.Prelude.{◌↔◌}
 use Rattle.std.specs.List.{flat_map, AllByRecursion}
-use Rattle.certdef.specs.Items.{Item, title_line, size_line, length_line, tour_line, cuts_line, line, fits, item_of}
+use Rattle.certdef.specs.Items.{Item, title_line, size_line, length_line, bound_line, tour_line, cuts_line, line, fits, item_of}
 use Rattle.certdef.specs.Proofs.{Proof, listed_items, tree_items, items, lines}
 use Rattle.certdef.specs.Tests.{Tests}
 use Rattle.certdef.specs.Verdicts.{Stage, wants_title, yes, Outcome, go, refused, line_step, step, run, verdict_by}

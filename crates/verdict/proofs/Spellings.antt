@@ -2,7 +2,7 @@
 use Rattle.std.proofs.Common.{◌≡◌, ℕ, ◌^◌, ◌<◌, true, List, [], ◌∷◌, ◌++◌, length, get_or, map, drop, ℤ, refl, sym, ap, ◌∙◌, arith, append_assoc, eqb, ◌⊎◌, inl, inr, ⊎_elim}
 use Rattle.std.specs.List.{flat_map, AllByRecursion, slice_split}
 use Rattle.certdef.specs.Items.{Item, tooth_line, line, fits, only_item}
-use Rattle.certdef.specs.Proofs.{Listed, subtour_cut, comb_cut, Duals, Written, open_leaf, closed_leaf, edge_split, clique_split, Proof, listed_items, city_item, cut_item, condition_item, dual_items, tree_items, items, ended, text_of, text}
+use Rattle.certdef.specs.Proofs.{Listed, subtour_cut, comb_cut, odd_cut, Duals, Written, open_leaf, closed_leaf, edge_split, clique_split, Proof, listed_items, city_item, cut_item, condition_item, dual_items, tree_items, items, ended, text_of, text}
 use Rattle.verdict.specs.Spellings.{SpellingsAreApart, NoTextBeginsAnother, BytesHaveOneValue}
 use Rattle.verdict.proofs.Lines.{Small, small_if, InLine, line_plain, split_line, only_words}
 use Rattle.verdict.proofs.CutSteps.{append_nil}

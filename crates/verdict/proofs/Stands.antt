@@ -2,10 +2,10 @@
 use Rattle.std.proofs.Common.{◌≡◌, ℕ, zero, suc, ◌+◌, ◌-◌, ◌≤◌, Bool, true, false, cond, ◌&&◌, List, [], ◌∷◌, ◌++◌, length, Option, Some, None, refl, arith}
 use Rattle.std.specs.Prelude.{nat_le}
 use Rattle.tspdef.specs.Paths.{Condition}
-use Rattle.certdef.specs.Items.{Item, title_line, size_line, length_line, tour_line, cuts_line, subtour_line, comb_line, handle_line, tooth_line, edge_line, clique_line, leaf_line, city_line, cut_line, condition_line, open_line}
-use Rattle.certdef.specs.Proofs.{Listed, subtour_cut, comb_cut}
+use Rattle.certdef.specs.Items.{Item, title_line, size_line, length_line, bound_line, tour_line, cuts_line, subtour_line, comb_line, handle_line, tooth_line, odd_line, pair_line, edge_line, clique_line, leaf_line, city_line, cut_line, condition_line, open_line}
+use Rattle.certdef.specs.Proofs.{Listed, subtour_cut, comb_cut, odd_cut}
 use Rattle.certdef.specs.Tests.{Tests}
-use Rattle.certdef.specs.Verdicts.{Head, OpenDuals, Stage, wants_title, wants_size, wants_length, wants_tour, wants_count, wants_cut, wants_handle, wants_tooth, wants_trees, wants_duals, Outcome, go, refused, after, cuts_on, cut_end, teeth_on, duals_on, with_city, with_cut_dual, with_condition, fresh_duals, on_title, on_size, on_length, on_tour, on_count, on_cut, on_handle, on_tooth, on_tree, on_dual, line_step}
+use Rattle.certdef.specs.Verdicts.{Head, OpenDuals, Stage, wants_title, wants_size, wants_length, wants_bound, wants_tour, wants_count, wants_cut, wants_handle, wants_tooth, wants_odd_handle, wants_pair, wants_trees, wants_duals, Outcome, go, refused, after, cuts_on, cut_end, teeth_on, pairs_on, duals_on, with_city, with_cut_dual, with_condition, fresh_duals, on_title, on_size, on_length, on_bound, on_tour, on_count, on_cut, on_handle, on_tooth, on_odd_handle, on_pair, on_tree, on_dual, line_step}
 
 -- how many duals are read
 abbrev pub read_duals : OpenDuals → ℕ

@@ -7,11 +7,11 @@ use Rattle.tspdef.specs.Instances.{Instance, length_in}
 use Rattle.tspdef.specs.Cuts.{IsCut}
 use Rattle.tspdef.specs.Paths.{Condition, absent, present, two, four, condition_at, is_decided, root}
 use Rattle.tspdef.specs.Bounds.{bound, needed}
-use Rattle.certdef.specs.Items.{Item, size_line, tour_line, subtour_line, handle_line, tooth_line, edge_line, clique_line, leaf_line, city_line, cut_line, condition_line, open_line, item_of, longest}
-use Rattle.certdef.specs.Proofs.{Listed, subtour_cut, comb_cut, Written, open_leaf, closed_leaf, edge_split, clique_split, Proof, lines, text}
+use Rattle.certdef.specs.Items.{Item, size_line, tour_line, subtour_line, handle_line, tooth_line, odd_line, pair_line, edge_line, clique_line, leaf_line, city_line, cut_line, condition_line, open_line, item_of, longest}
+use Rattle.certdef.specs.Proofs.{Listed, subtour_cut, comb_cut, odd_cut, Written, open_leaf, closed_leaf, edge_split, clique_split, Proof, lines, text}
 use Rattle.certdef.specs.Accepted.{from_zero, cut_of, cuts_of, closing_of, firsts, is_clique, name_cliques, LeavesRise, DepthsName, HasForm, most_bytes}
 use Rattle.certdef.specs.Tests.{Tests, verifier, is_tour_from_one, is_proper, is_cut, closes_leaf}
-use Rattle.certdef.specs.Verdicts.{Head, OpenDuals, Stage, wants_title, wants_size, wants_length, wants_tour, wants_count, wants_cut, wants_handle, wants_tooth, wants_trees, wants_duals, yes, no, Outcome, go, refused, after, with_cut, cuts_on, cut_end, teeth_on, duals_on, with_city, with_cut_dual, with_condition, fresh_duals, on_tour, on_size, on_cut, on_handle, on_tooth, on_tree, on_dual, is_end, line_step}
+use Rattle.certdef.specs.Verdicts.{Head, OpenDuals, Stage, wants_title, wants_size, wants_length, wants_bound, wants_tour, wants_count, wants_cut, wants_handle, wants_tooth, wants_odd_handle, wants_pair, wants_trees, wants_duals, yes, no, Outcome, go, refused, after, with_cut, cuts_on, cut_end, teeth_on, pairs_on, duals_on, with_city, with_cut_dual, with_condition, fresh_duals, on_tour, on_size, on_cut, on_handle, on_tooth, on_odd_handle, on_pair, on_tree, on_dual, is_end, line_step}
 use Rattle.certdef.specs.Bytes.{Reading, Read, reads, stops, start, line_on, byte_on, bytes_on, verdict_at_end, verdict}
 use Rattle.verdict.specs.WrongValues.{IsRightTree, IsRight, RefusedValuesAreWrong, RefusedLinesAreWrong}
 use Rattle.verdict.proofs.Left.{all_named, Good}
