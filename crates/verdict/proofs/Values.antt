@@ -15,6 +15,7 @@ use Rattle.std.specs.List.{flat_map}
 use Rattle.certdef.specs.Accepted.{from_zero, cut_of, cuts_of, dual_of, duals_from, cut_at, closing_of, tree_of, firsts, is_clique, name_cliques, LeavesRise, DepthsName, IsReadable, HasForm, IsBoundOf, IsAcceptedProof}
 use Rattle.certdef.specs.Tests.{is_cut, verifier}
 use Rattle.verdict.specs.Forms.{form_only}
+use Rattle.verdict.specs.WrongValues.{bound_of}
 use Rattle.certdef.specs.Verdicts.{Head, yes, verdict_by}
 use Rattle.certdef.proofs.Depths.{depths_behind, depths_without}
 use Rattle.certdef.proofs.Restarts.{bound_le}
@@ -314,6 +315,10 @@ of_rises n h path (clique_split q t s) g = (refl, (of_rises n h (path ++ two (fr
 abbrev pub IsSaidBound : Option ℕ → ℕ → ℕ → Type 0
 IsSaidBound None l b = b ≡ l
 IsSaidBound (Some told) l b = told ≡ b
+
+pub its_bound : (told : Option ℕ) (l : ℕ) → IsSaidBound told l (bound_of l told)
+its_bound None l = refl
+its_bound (Some k) l = refl
 
 said_bound : (n : ℕ) (told : Option ℕ) (l b : ℕ) → IsToldBound (form_only n) told (l, b) → IsSaidBound told l b
 said_bound n None l b h = h
