@@ -8,7 +8,7 @@ use Rattle.std.specs.List.{AllByRecursion, All, join_with_byte, slice_split, pos
 use Rattle.std.proofs.lemmas.Bool.{and_from, and_parts, le-leb, leb-true, eqb-true, ltb-false}
 use Rattle.std.proofs.lemmas.List.Elements.{All-from_recursion}
 use Rattle.std.proofs.lemmas.List.Splits.{slice_split_none, slice_split_at}
-use Rattle.certdef.specs.Items.{Item, title_line, size_line, length_line, tour_line, cuts_line, subtour_line, comb_line, handle_line, tooth_line, edge_line, clique_line, leaf_line, city_line, cut_line, condition_line, open_line, words, line, in_bounds, longest, fits, value, values, only_item, item_of}
+use Rattle.certdef.specs.Items.{Item, title_line, size_line, length_line, bound_line, tour_line, cuts_line, subtour_line, comb_line, handle_line, tooth_line, odd_line, pair_line, edge_line, clique_line, leaf_line, city_line, cut_line, condition_line, open_line, words, line, in_bounds, longest, fits, value, values, only_item, item_of}
 use Rattle.verdict.proofs.Lines.{item_said, item_again}
 use Rattle.certline.specs.Spelling.{EndsWord, spaced}
 use Rattle.certline.specs.Words.{word_of}
@@ -88,9 +88,9 @@ behind_word w tail ns e = cancel w tail (spaced ns) (e ∙ numbers_joined w ns)
 
 -- ---- lines that are not of the form, by their first word
 
-pub no_title : (n : ℕ) (tail : List ℕ) → EndsWord tail → (tail ≡ 32 ∷ 49 ∷ [] → ⊥) → None ≡ item_of n (codes "TSPCERT" ++ tail)
+pub no_title : (n : ℕ) (tail : List ℕ) → EndsWord tail → ((m : ℕ) → in_bounds n (title_line m) ≡ true → tail ≡ spaced (m ∷ []) → ⊥) → None ≡ item_of n (codes "TSPCERT" ++ tail)
 unfolding only_item
-no_title n tail t never = refused n (codes "TSPCERT") tail (refl, (refl, (refl, (refl, (refl, (refl, (refl, tt))))))) t (λ ws b e. never (cancel (codes "TSPCERT") tail (32 ∷ 49 ∷ []) e))
+no_title n tail t never = refused n (codes "TSPCERT") tail (refl, (refl, (refl, (refl, (refl, (refl, (refl, tt))))))) t (λ ws b e. let m = value (get_or ws 0 []) in never m b (behind_word (codes "TSPCERT") tail (m ∷ []) e))
 
 pub no_size : (n : ℕ) (tail : List ℕ) → EndsWord tail → ((m : ℕ) → in_bounds n (size_line m) ≡ true → tail ≡ spaced (m ∷ []) → ⊥) → None ≡ item_of n (codes "N" ++ tail)
 unfolding only_item
@@ -100,6 +100,10 @@ pub no_length : (n : ℕ) (tail : List ℕ) → EndsWord tail → ((m : ℕ) →
 unfolding only_item
 no_length n tail t never = refused n (codes "LENGTH") tail (refl, (refl, (refl, (refl, (refl, (refl, tt)))))) t (λ ws b e. let m = value (get_or ws 0 []) in never m b (behind_word (codes "LENGTH") tail (m ∷ []) e))
 
+pub no_bound : (n : ℕ) (tail : List ℕ) → EndsWord tail → ((m : ℕ) → in_bounds n (bound_line m) ≡ true → tail ≡ spaced (m ∷ []) → ⊥) → None ≡ item_of n (codes "BOUND" ++ tail)
+unfolding only_item
+no_bound n tail t never = refused n (codes "BOUND") tail (refl, (refl, (refl, (refl, (refl, tt))))) t (λ ws b e. let m = value (get_or ws 0 []) in never m b (behind_word (codes "BOUND") tail (m ∷ []) e))
+
 pub no_cuts : (n : ℕ) (tail : List ℕ) → EndsWord tail → ((m : ℕ) → in_bounds n (cuts_line m) ≡ true → tail ≡ spaced (m ∷ []) → ⊥) → None ≡ item_of n (codes "CUTS" ++ tail)
 unfolding only_item
 no_cuts n tail t never = refused n (codes "CUTS") tail (refl, (refl, (refl, (refl, tt)))) t (λ ws b e. let m = value (get_or ws 0 []) in never m b (behind_word (codes "CUTS") tail (m ∷ []) e))
@@ -107,6 +111,10 @@ no_cuts n tail t never = refused n (codes "CUTS") tail (refl, (refl, (refl, (ref
 pub no_comb : (n : ℕ) (tail : List ℕ) → EndsWord tail → ((m : ℕ) → in_bounds n (comb_line m) ≡ true → tail ≡ spaced (m ∷ []) → ⊥) → None ≡ item_of n (codes "C" ++ tail)
 unfolding only_item
 no_comb n tail t never = refused n (codes "C") tail (refl, tt) t (λ ws b e. let m = value (get_or ws 0 []) in never m b (behind_word (codes "C") tail (m ∷ []) e))
+
+pub no_odd : (n : ℕ) (tail : List ℕ) → EndsWord tail → ((m : ℕ) → in_bounds n (odd_line m) ≡ true → tail ≡ spaced (m ∷ []) → ⊥) → None ≡ item_of n (codes "B" ++ tail)
+unfolding only_item
+no_odd n tail t never = refused n (codes "B") tail (refl, tt) t (λ ws b e. let m = value (get_or ws 0 []) in never m b (behind_word (codes "B") tail (m ∷ []) e))
 
 pub no_tour : (n : ℕ) (tail : List ℕ) → EndsWord tail → ((cs : List ℕ) → in_bounds n (tour_line cs) ≡ true → tail ≡ spaced cs → ⊥) → None ≡ item_of n (codes "TOUR" ++ tail)
 unfolding only_item
@@ -127,6 +135,10 @@ no_tooth n tail t never = refused n (codes "T") tail (refl, tt) t (λ ws b e. le
 pub no_clique : (n : ℕ) (tail : List ℕ) → EndsWord tail → ((s : List ℕ) → in_bounds n (clique_line s) ≡ true → tail ≡ spaced (length s ∷ s) → ⊥) → None ≡ item_of n (codes "K" ++ tail)
 unfolding only_item
 no_clique n tail t never = refused n (codes "K") tail (refl, tt) t (λ ws b e. let s = values (drop 1 ws) in never s b (behind_word (codes "K") tail (length s ∷ s) e))
+
+pub no_pair : (n : ℕ) (tail : List ℕ) → EndsWord tail → ((u v : ℕ) → in_bounds n (pair_line u v) ≡ true → tail ≡ spaced (u ∷ v ∷ []) → ⊥) → None ≡ item_of n (codes "F" ++ tail)
+unfolding only_item
+no_pair n tail t never = refused n (codes "F") tail (refl, tt) t (λ ws b e. let u = value (get_or ws 0 []) in let v = value (get_or ws 1 []) in never u v b (behind_word (codes "F") tail (u ∷ v ∷ []) e))
 
 pub no_edge : (n : ℕ) (tail : List ℕ) → EndsWord tail → ((u v : ℕ) → in_bounds n (edge_line u v) ≡ true → tail ≡ spaced (u ∷ v ∷ []) → ⊥) → None ≡ item_of n (codes "E" ++ tail)
 unfolding only_item
@@ -155,24 +167,6 @@ no_open n tail t never = refused n (codes "O") tail (refl, tt) t (λ ws b e. nev
 
 -- ---- the first word of each line
 
-kind : Item → Keyword
-kind title_line = keywords.Cert
-kind (size_line m) = keywords.N
-kind (length_line m) = keywords.Length
-kind (tour_line cs) = keywords.Tour
-kind (cuts_line m) = keywords.Cuts
-kind (subtour_line s) = keywords.Subtour
-kind (comb_line m) = keywords.Comb
-kind (handle_line s) = keywords.Handle
-kind (tooth_line s) = keywords.Tooth
-kind (edge_line u v) = keywords.Edge
-kind (clique_line s) = keywords.Clique
-kind (leaf_line a b c) = keywords.Leaf
-kind (city_line v x) = keywords.City
-kind (cut_line k y) = keywords.CutDual
-kind (condition_line k y) = keywords.CondDual
-kind open_line = keywords.Open
-
 -- a line is the word of its kind, and then nothing or a blank
 record HasWord (i : Item) (k : Keyword) : Type 0 where
   tail : List ℕ
@@ -187,15 +181,18 @@ numbers_word : (i : Item) (k : Keyword) (ns : List ℕ) → words i ≡ word_of 
 numbers_word i k ns e = record { tail = spaced ns; said = ap (join_with_byte 32) e ∙ numbers_joined (word_of k) ns; ends = tail_ends ns }
 
 has_word : (i : Item) → (k : Keyword) × HasWord i k
-has_word title_line = (keywords.Cert, record { tail = 32 ∷ 49 ∷ []; said = refl; ends = refl })
+has_word (title_line v) = (keywords.Cert, numbers_word (title_line v) keywords.Cert (v ∷ []) refl)
 has_word (size_line m) = (keywords.N, numbers_word (size_line m) keywords.N (m ∷ []) refl)
 has_word (length_line m) = (keywords.Length, numbers_word (length_line m) keywords.Length (m ∷ []) refl)
+has_word (bound_line m) = (keywords.Bound, numbers_word (bound_line m) keywords.Bound (m ∷ []) refl)
 has_word (tour_line cs) = (keywords.Tour, numbers_word (tour_line cs) keywords.Tour cs refl)
 has_word (cuts_line m) = (keywords.Cuts, numbers_word (cuts_line m) keywords.Cuts (m ∷ []) refl)
 has_word (subtour_line s) = (keywords.Subtour, numbers_word (subtour_line s) keywords.Subtour (length s ∷ s) refl)
 has_word (comb_line m) = (keywords.Comb, numbers_word (comb_line m) keywords.Comb (m ∷ []) refl)
 has_word (handle_line s) = (keywords.Handle, numbers_word (handle_line s) keywords.Handle (length s ∷ s) refl)
 has_word (tooth_line s) = (keywords.Tooth, numbers_word (tooth_line s) keywords.Tooth (length s ∷ s) refl)
+has_word (odd_line m) = (keywords.Odd, numbers_word (odd_line m) keywords.Odd (m ∷ []) refl)
+has_word (pair_line u v) = (keywords.Pair, numbers_word (pair_line u v) keywords.Pair (u ∷ v ∷ []) refl)
 has_word (edge_line u v) = (keywords.Edge, numbers_word (edge_line u v) keywords.Edge (u ∷ v ∷ []) refl)
 has_word (clique_line s) = (keywords.Clique, numbers_word (clique_line s) keywords.Clique (length s ∷ s) refl)
 has_word (leaf_line a b c) = (keywords.Leaf, numbers_word (leaf_line a b c) keywords.Leaf (a ∷ b ∷ c ∷ []) refl)
@@ -208,12 +205,15 @@ plain_word : (k : Keyword) → IsPlain (word_of k)
 plain_word keywords.Cert = (refl, (refl, (refl, (refl, (refl, (refl, (refl, tt)))))))
 plain_word keywords.N = (refl, tt)
 plain_word keywords.Length = (refl, (refl, (refl, (refl, (refl, (refl, tt))))))
+plain_word keywords.Bound = (refl, (refl, (refl, (refl, (refl, tt)))))
 plain_word keywords.Tour = (refl, (refl, (refl, (refl, tt))))
 plain_word keywords.Cuts = (refl, (refl, (refl, (refl, tt))))
 plain_word keywords.Subtour = (refl, tt)
 plain_word keywords.Comb = (refl, tt)
 plain_word keywords.Handle = (refl, tt)
 plain_word keywords.Tooth = (refl, tt)
+plain_word keywords.Odd = (refl, tt)
+plain_word keywords.Pair = (refl, tt)
 plain_word keywords.Edge = (refl, tt)
 plain_word keywords.Clique = (refl, tt)
 plain_word keywords.Leaf = (refl, tt)

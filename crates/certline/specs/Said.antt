@@ -6,15 +6,18 @@ use Rattle.certline.specs.declared.item.Item.{Item}
 use Rattle.certline.specs.declared.item.Item.TheVariants as lines
 
 abbrev pub said : Item → items.Item
-said lines.Cert = items.title_line
+said (lines.Cert v) = items.title_line v
 said (lines.N n) = items.size_line n
 said (lines.Length l) = items.length_line l
+said (lines.Bound b) = items.bound_line b
 said (lines.Tour v) = items.tour_line v.items
 said (lines.Cuts k) = items.cuts_line k
 said (lines.Subtour v) = items.subtour_line v.items
 said (lines.Comb t) = items.comb_line t
 said (lines.Handle v) = items.handle_line v.items
 said (lines.Tooth v) = items.tooth_line v.items
+said (lines.Odd t) = items.odd_line t
+said (lines.Pair u v) = items.pair_line u v
 said (lines.Edge u v) = items.edge_line u v
 said (lines.Clique v) = items.clique_line v.items
 said (lines.Leaf a b c) = items.leaf_line a b c

@@ -10,7 +10,8 @@ ghost use Rattle.certline.specs.Said.{said, ReadsAs};
 use crate::keyword::{Keyword, keyword_of, word_end};
 use crate::lists::{clique, handle, subtour, tooth, tour};
 use crate::shapes::{
-    city, comb, condition_dual, cut_dual, cuts, edge, leaf, length, open_leaf, size, title,
+    bound, city, comb, condition_dual, cut_dual, cuts, edge, leaf, length, odd, open_leaf, pair,
+    size, title,
 };
 use std::alloc::{AllocError, Global};
 
@@ -18,12 +19,14 @@ use std::alloc::{AllocError, Global};
 /// how many they are.
 #[derive(Debug, PartialEq, Eq, Drop)]
 pub enum Item {
-    /// The first line.
-    Cert,
+    /// The first line: which version of the text follows, 1 or 2.
+    Cert(u32),
     /// How many cities there are.
     N(u32),
     /// The length of the tour.
     Length(u64),
+    /// The bound, which is told where it is less than the length.
+    Bound(u64),
     /// The tour.
     Tour(Vec<u64>),
     /// How many cuts follow.
@@ -36,6 +39,10 @@ pub enum Item {
     Handle(Vec<u32>),
     /// A tooth of a comb.
     Tooth(Vec<u32>),
+    /// An odd cut: how many pairs follow its handle.
+    Odd(u32),
+    /// A pair of an odd cut, the lower city first.
+    Pair(u32, u32),
     /// A split by a pair of cities, the lower one first.
     Edge(u32, u32),
     /// A split by a set.
@@ -80,12 +87,15 @@ fn behind(alloc: Global, n: u32, keyword: Keyword, tail: &[u8]) -> Result<Option
         Keyword::Cert => Ok(title(n, tail)),
         Keyword::N => Ok(size(n, tail)),
         Keyword::Length => Ok(length(n, tail)),
+        Keyword::Bound => Ok(bound(n, tail)),
         Keyword::Tour => tour(alloc, n, tail),
         Keyword::Cuts => Ok(cuts(n, tail)),
         Keyword::Subtour => subtour(alloc, n, tail),
         Keyword::Comb => Ok(comb(n, tail)),
         Keyword::Handle => handle(alloc, n, tail),
         Keyword::Tooth => tooth(alloc, n, tail),
+        Keyword::Odd => Ok(odd(n, tail)),
+        Keyword::Pair => Ok(pair(n, tail)),
         Keyword::Edge => Ok(edge(n, tail)),
         Keyword::Clique => clique(alloc, n, tail),
         Keyword::Leaf => Ok(leaf(n, tail)),

@@ -12,6 +12,12 @@ use crate::item::Item;
 /// The greatest dual.
 const MOST_DUAL: u64 = 1 << 62;
 
+/// The greatest length of a tour that a text may tell.
+const MOST_LENGTH: u64 = 1 << 42;
+
+/// The greatest bound that a text may tell.
+const MOST_BOUND: u64 = 1 << 42;
+
 /// The one number that stands in a line, if it is at most this.
 fn one(tail: &[u8], most: u64) -> Option<u64>
     requires { most < 10 ^ 19 }
@@ -26,6 +32,19 @@ fn one(tail: &[u8], most: u64) -> Option<u64>
         return None;
     }
     if x <= most { Some(x) } else { None }
+}
+
+/// The one number that stands in a line, if it is from 1 to this.
+fn counted(tail: &[u8], most: u64) -> Option<u64>
+    requires { most < 10 ^ 19 }
+    ensures some { IfSome result (λ x. tail.now ≡ spaced (x ∷ [])) }
+    ensures small { IfSome result (λ x. (0 < x) × (x ≤ most)) }
+    ensures none { IfNone result ((x : ℕ) → 0 < x → x ≤ most → tail.now ≡ spaced (x ∷ []) → ⊥) }
+{
+    let Some(x) = one(tail, most) else {
+        return None;
+    };
+    if 0 < x { Some(x) } else { None }
 }
 
 /// The two numbers that stand in a line.
@@ -151,24 +170,15 @@ fn signed_dual(text: &[u8]) -> Option<i64>
     }
 }
 
-/// Whether the version of the form stands behind the first word.
-fn is_version(tail: &[u8]) -> bool
-    ensures yes { IsTrue result → tail.now ≡ 32 ∷ 49 ∷ [] }
-    ensures no { ¬ IsTrue result → tail.now ≡ 32 ∷ 49 ∷ [] → ⊥ }
-{
-    matches!(tail, b" 1")
-}
-
 /// The first line.
 pub fn title(n: u32, tail: &[u8]) -> Option<Item>
     requires tail { EndsWord tail.now }
     requires short { length (codes "TSPCERT" ++ tail.now) ≤ longest }
     ensures { ReadsAs n (codes "TSPCERT" ++ tail.now) result }
 {
-    if is_version(tail) {
-        Some(Item::Cert)
-    } else {
-        None
+    match counted(tail, 2) {
+        Some(version) => Some(Item::Cert(version as u32)),
+        None => None,
     }
 }
 
@@ -190,8 +200,20 @@ pub fn length(n: u32, tail: &[u8]) -> Option<Item>
     requires short { length (codes "LENGTH" ++ tail.now) ≤ longest }
     ensures { ReadsAs n (codes "LENGTH" ++ tail.now) result }
 {
-    match one(tail, 1 << 42) {
+    match one(tail, MOST_LENGTH) {
         Some(long) => Some(Item::Length(long)),
+        None => None,
+    }
+}
+
+/// The line of the bound.
+pub fn bound(n: u32, tail: &[u8]) -> Option<Item>
+    requires tail { EndsWord tail.now }
+    requires short { length (codes "BOUND" ++ tail.now) ≤ longest }
+    ensures { ReadsAs n (codes "BOUND" ++ tail.now) result }
+{
+    match one(tail, MOST_BOUND) {
+        Some(bound) => Some(Item::Bound(bound)),
         None => None,
     }
 }
@@ -216,6 +238,36 @@ pub fn comb(n: u32, tail: &[u8]) -> Option<Item>
 {
     match one(tail, 2000) {
         Some(teeth) => Some(Item::Comb(teeth as u32)),
+        None => None,
+    }
+}
+
+/// The first line of an odd cut.
+pub fn odd(n: u32, tail: &[u8]) -> Option<Item>
+    requires tail { EndsWord tail.now }
+    requires short { length (codes "B" ++ tail.now) ≤ longest }
+    ensures { ReadsAs n (codes "B" ++ tail.now) result }
+{
+    match counted(tail, 4095) {
+        Some(pairs) => Some(Item::Odd(pairs as u32)),
+        None => None,
+    }
+}
+
+/// The line of a pair of an odd cut.
+pub fn pair(n: u32, tail: &[u8]) -> Option<Item>
+    requires tail { EndsWord tail.now }
+    requires short { length (codes "F" ++ tail.now) ≤ longest }
+    ensures { ReadsAs n (codes "F" ++ tail.now) result }
+{
+    match two(tail) {
+        Some((u, v)) => {
+            if is_pair(n, u, v) {
+                Some(Item::Pair(u as u32, v as u32))
+            } else {
+                None
+            }
+        }
         None => None,
     }
 }

@@ -6,7 +6,7 @@ use std::test::Fail;
 #[test]
 fn each_kind_of_line_is_read(rt: HostRuntime) -> Result<(), Fail> {
     let alloc = rt.alloc();
-    assert_eq!(rt; read_line(alloc, 5, b"TSPCERT 1")?, Some(Item::Cert));
+    assert_eq!(rt; read_line(alloc, 5, b"TSPCERT 1")?, Some(Item::Cert(1)));
     assert_eq!(rt;
         read_line(alloc, 5, b"N 4294967295")?,
         Some(Item::N(4_294_967_295))
@@ -15,6 +15,15 @@ fn each_kind_of_line_is_read(rt: HostRuntime) -> Result<(), Fail> {
         read_line(alloc, 5, b"LENGTH 4398046511104")?,
         Some(Item::Length(4_398_046_511_104))
     );
+    assert_eq!(rt; read_line(alloc, 5, b"TSPCERT 2")?, Some(Item::Cert(2)));
+    assert_eq!(rt;
+        read_line(alloc, 5, b"BOUND 4398046511104")?,
+        Some(Item::Bound(4_398_046_511_104))
+    );
+    assert_eq!(rt; read_line(alloc, 5, b"BOUND 0")?, Some(Item::Bound(0)));
+    assert_eq!(rt; read_line(alloc, 5, b"B 1")?, Some(Item::Odd(1)));
+    assert_eq!(rt; read_line(alloc, 5, b"B 4095")?, Some(Item::Odd(4095)));
+    assert_eq!(rt; read_line(alloc, 5, b"F 1 5")?, Some(Item::Pair(1, 5)));
     assert_eq!(rt; read_line(alloc, 5, b"CUTS 0")?, Some(Item::Cuts(0)));
     assert_eq!(rt; read_line(alloc, 5, b"C 3")?, Some(Item::Comb(3)));
     assert_eq!(rt; read_line(alloc, 5, b"E 1 5")?, Some(Item::Edge(1, 5)));
@@ -58,7 +67,8 @@ fn lines_that_are_not_of_the_form_are_none(rt: HostRuntime) -> Result<(), Fail> 
     let alloc = rt.alloc();
     for line in [
         b"".as_slice(),
-        b"TSPCERT 2",
+        b"TSPCERT 3",
+        b"TSPCERT 0",
         b"TSPCERT",
         b"N 01",
         b"N 4294967296",
@@ -70,6 +80,17 @@ fn lines_that_are_not_of_the_form_are_none(rt: HostRuntime) -> Result<(), Fail> 
         b"n 1",
         b"N",
         b"LENGTH 4398046511105",
+        b"BOUND 4398046511105",
+        b"BOUND -1",
+        b"BOUND",
+        b"B 0",
+        b"B 4096",
+        b"B 3 1",
+        b"F 2 2",
+        b"F 2 1",
+        b"F 0 1",
+        b"F 1 6",
+        b"F 1",
         b"E 2 2",
         b"E 0 1",
         b"E 1 6",

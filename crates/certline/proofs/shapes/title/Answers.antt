@@ -1,10 +1,18 @@
-use Rattle.std.proofs.Common.{◌++◌, codes, refl, ap, arith}
+use Rattle.std.proofs.Common.{[], ◌∷◌, codes, refl, arith}
+use Rattle.std.proofs.lemmas.Bool.{and_parts, and_from, lt-ltb, ltb-true, le-leb, leb-true}
+use Rattle.std.specs.Prelude.{nat_lt, nat_le}
 use Rattle.certdef.specs.Items.{title_line}
-use Rattle.certline.proofs.Lines.{no_title, read_as}
+use Rattle.certline.proofs.Lines.{numbers_read, no_title}
 use Rattle.certline.proofs.shapes.title.Goals as goal
 
-pub returns-then-is_version : goal.returns-then-is_version
-returns-then-is_version c = read_as c.args.n title_line (codes "TSPCERT" ++ c.args.tail.now) (omega arith) (ap (λ t. codes "TSPCERT" ++ t) (c.is_version.ensures.yes c.if-is_version.true)) refl c.requires.short
+pub returns-in-Some : goal.returns-in-Some
+returns-in-Some c =
+    let x = c.in-Some.version in
+    let small = c.in-Some.ensures.small in
+    numbers_read c.args.n (title_line x) (codes "TSPCERT") c.args.tail.now (x ∷ []) (omega arith) refl c.in-Some.ensures.some
+    (and_from (nat_lt 0 x) (nat_le x 2) (lt-ltb 0 x small.0) (le-leb x 2 small.1)) c.requires.short
 
-pub returns-else-is_version : goal.returns-else-is_version
-returns-else-is_version c = no_title c.args.n c.args.tail.now c.requires.tail (c.is_version.ensures.no (λ yes. let no = c.if-is_version.false in cc))
+pub returns-in-None : goal.returns-in-None
+returns-in-None c = no_title c.args.n c.args.tail.now c.requires.tail (λ m b e.
+    let p = and_parts (nat_lt 0 m) (nat_le m 2) b in
+    c.in-None.ensures.none m (ltb-true 0 m p.0) (leb-true m 2 p.1) e)
