@@ -1,6 +1,7 @@
 -- From the check of a proof to the printed answer.
-use Rattle.std.proofs.Common.{◌≡◌, ℕ, ◌≤◌, List, [], take, drop, refl, sym, ap, subst, ◌∙◌, inl, inr, Option, Some, None}
-use Rattle.std.specs.Prelude.{◌↔◌}
+use Rattle.std.proofs.Common.{◌≡◌, ℕ, ◌≤◌, List, [], take, drop, refl, sym, ap, subst, ◌∙◌, inl, inr, ⊎_elim, Option, Some, None, arith}
+use Rattle.std.specs.Prelude.{◌==◌, ◌<◌, ◌↔◌}
+use Rattle.std.proofs.lemmas.Bool.{cond_both, cases_lt, eqb-true, eqb-false}
 use Rattle.ports.specs.Outside.{BothTell, WhereTold}
 use Rattle.ports.specs.Desk.{Told, Adds, TakesFirst, with_added, with_left, with_inlet_path}
 use Rattle.ports.specs.declared.desk.Inlet.TheVariants as inlet
@@ -8,7 +9,7 @@ use Rattle.ports.specs.declared.desk.Outlet.TheVariants as outlet
 use Rattle.tspdef.specs.Instances.{Instance}
 use Rattle.certdef.specs.Accepted.{IsAcceptedText}
 use Rattle.certdef.specs.Bytes.{verdict}
-use Rattle.certdef.specs.Laws.{AcceptedTextIsOptimal}
+use Rattle.certdef.specs.Laws.{AcceptedTextIsBelow}
 use Rattle.certcheck.specs.declared.answer.Answer.{Answer}
 use Rattle.certcheck.specs.declared.answer.Answer.TheVariants as answer
 use Rattle.certcheck.specs.Answers.{verdict_of, IsYes}
@@ -21,11 +22,16 @@ use Rattle.verification.proofs.Tells.{both_to, both_then}
 use Rattle.verification.proofs.Torn.{torn_by}
 
 -- an answer is right where it is the verdict, and yes exactly on accepted bytes
-right_of : (i : Instance) (proof : List ℕ) (a : Answer) → 3 ≤ i.n → AcceptedTextIsOptimal → verdict_of a ≡ verdict i proof
-    → ((l : ℕ) → (a ≡ answer.Yes l) ↔ IsAcceptedText i proof l) → IsRight i proof a
-right_of i proof (answer.Yes l) three optimal is exact =
-    let accepted = (exact l).0 refl in record { accepted = accepted; shortest = optimal i proof l three accepted }
-right_of i proof (answer.No k line) three optimal is exact = record { first = sym is; never = λ l accepted. let e = (exact l).1 accepted in cc }
+right_of : (i : Instance) (proof : List ℕ) (a : Answer) → 3 ≤ i.n → AcceptedTextIsBelow → verdict_of a ≡ verdict i proof
+    → ((l b : ℕ) → (a ≡ answer.Yes l b) ↔ IsAcceptedText i proof l b) → IsRight i proof a
+right_of i proof (answer.Yes l b) three optimal is exact =
+    let accepted = (exact l b).0 refl in record {
+      accepted = accepted;
+      only = λ m c other. let e = (exact m c).1 other in let x : m ≡ l = cc in let y : c ≡ b = cc in (x, y);
+      most = accepted.2.accepted.accepted.below;
+      least = optimal i proof l b three accepted;
+    }
+right_of i proof (answer.No k line) three optimal is exact = record { first = sym is; never = λ l b accepted. let e = (exact l b).1 accepted in cc }
 
 -- the proof is bound to a word and checked, and nothing is printed yet
 pub record Checks (i : Instance) (word : List ℕ) (a : Answer) (k : ℕ) (t u : Told) : Type 0 where
@@ -37,10 +43,10 @@ pub record Checks (i : Instance) (word : List ℕ) (a : Answer) (k : ℕ) (t u :
 bound_and_taken : (word : List ℕ) (k : ℕ) (t u v : Told) → u ≡ with_inlet_path inlet.Proof word t → TakesFirst inlet.Proof k u v → v ≡ proof_told word k t
 bound_and_taken word k t u v bound taken = taken ∙ ap (λ (x : Told). with_left inlet.Proof (drop k x.proof_in) x) bound
 
-pub checked : (i : Instance) (word : List ℕ) (ans : Answer) (k : ℕ) (a b c : Option Told) → 3 ≤ i.n → AcceptedTextIsOptimal
+pub checked : (i : Instance) (word : List ℕ) (ans : Answer) (k : ℕ) (a b c : Option Told) → 3 ≤ i.n → AcceptedTextIsBelow
     → BothTell (λ t u. u ≡ with_inlet_path inlet.Proof word t) a b
     → WhereTold (λ t. verdict_of ans ≡ verdict i t.proof_in) b
-    → WhereTold (λ t. (l : ℕ) → (ans ≡ answer.Yes l) ↔ IsAcceptedText i t.proof_in l) b
+    → WhereTold (λ t. (l b : ℕ) → (ans ≡ answer.Yes l b) ↔ IsAcceptedText i t.proof_in l b) b
     → (IsYes ans → BothTell (λ t u. u.proof_in ≡ []) b c)
     → BothTell (TakesFirst inlet.Proof k) b c → BothTell (Checks i word ans k) a c
 checked i word ans k None None None three optimal bound judged exact whole taken = tt
@@ -61,7 +67,11 @@ gives : (i : Instance) (word : List ℕ) (ans : Answer) (k : ℕ) (t u v : Told)
 gives i word ans k t u v r f = record { right = r.right; count = k; whole = r.whole; others = f ∙ ap (with_added outlet.Text (answer_text ans)) r.others }
 
 said_at : (i : Instance) (word : List ℕ) (ans : Answer) (t v : Told) → GivesAnswer i word ans t v → Judges i word (answer_status ans) t v
-said_at i word (answer.Yes l) t v x = (l, x)
+said_at i word (answer.Yes l b) t v x = cond_both (b == l) status.Verified status.Within (λ s. Judges i word s t v)
+    (λ e. (l, subst (λ (k : ℕ). GivesAnswer i word (answer.Yes l k) t v) (eqb-true b l e) x))
+    (λ e. let ne = eqb-false b l e in let most = x.right.most in (l, b, less b l most ne, x)) where
+      less : (m n : ℕ) → m ≤ n → (m ≡ n → ⊥) → m < n
+      less m n h k = ⊎_elim (λ l. l) (λ l. absurd (k (omega arith))) (cases_lt m n)
 said_at i word (answer.No n line) t v x = (n, line, x)
 
 torn_at : (i : Instance) (word : List ℕ) (ans : Answer) (k j : ℕ) (t u v : Told) → Checks i word ans k t u → Adds outlet.Text (take j (answer_text ans)) u v → Judges i word status.WriteFault t v

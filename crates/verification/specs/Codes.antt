@@ -11,3 +11,4 @@ code_of status.Refused = 4
 code_of status.ReadFault = 6
 code_of status.WriteFault = 7
 code_of status.NoMemory = 9
+code_of status.Within = 10

@@ -1,5 +1,5 @@
 -- What the second step does: it reads a proof for an instance and prints the answer.
-use Rattle.std.specs.Prelude.{◌≡◌, ℕ, ◌⊎◌, List, [], drop}
+use Rattle.std.specs.Prelude.{◌≡◌, ℕ, ◌<◌, ◌⊎◌, List, [], drop}
 use Rattle.ports.specs.Desk.{Told, Adds}
 use Rattle.ports.specs.declared.desk.Outlet.TheVariants as outlet
 use Rattle.tspdef.specs.Instances.{Instance}
@@ -20,7 +20,8 @@ pub record GivesAnswer (i : Instance) (word : List ℕ) (a : Answer) (t u : Told
 
 -- how the step ends, by its status
 abbrev pub Judges : Instance → List ℕ → VerifyStatus → Told → Told → Type 0
-Judges i word status.Verified t u = (l : ℕ) × GivesAnswer i word (answer.Yes l) t u
+Judges i word status.Verified t u = (l : ℕ) × GivesAnswer i word (answer.Yes l l) t u
+Judges i word status.Within t u = (l : ℕ) × (b : ℕ) × (b < l) × GivesAnswer i word (answer.Yes l b) t u
 Judges i word status.Usage t u = ⊥
 Judges i word status.BadInstance t u = ⊥
 Judges i word status.Refused t u = (k : ℕ) × (line : ℕ) × GivesAnswer i word (answer.No k line) t u

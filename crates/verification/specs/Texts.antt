@@ -7,9 +7,13 @@ use Rattle.tspinst.specs.Refusals.{refusal_text}
 abbrev pub instance_text : Refusal → List ℕ
 instance_text r = codes "INSTANCE " ++ refusal_text r ++ codes "\n"
 
--- the proof is accepted with this length
+-- the proof is accepted with this length as its bound
 abbrev pub verified_text : ℕ → List ℕ
 verified_text l = codes "VERIFIED " ++ decimal l ++ codes "\n"
+
+-- the proof is accepted with this length, and with this bound, which is below it
+abbrev pub within_text : ℕ → ℕ → List ℕ
+within_text l b = codes "WITHIN " ++ decimal l ++ codes " " ++ decimal b ++ codes "\n"
 
 -- the proof has this first refusal, at this line
 abbrev pub refused_text : ℕ → ℕ → List ℕ

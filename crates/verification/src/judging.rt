@@ -8,7 +8,7 @@ ghost use Rattle.verification.specs.Judging.{Judges, IsSayStatus};
 use crate::statuses::VerifyStatus;
 use crate::texts::answer_text;
 use certcheck::{Answer, CheckError, check};
-use certdef::accepted_text_is_optimal;
+use certdef::accepted_text_is_below;
 use ports::{Desk, Inlet, Outlet, write_all};
 use std::alloc::Global;
 use tspinst::Instance;
@@ -25,7 +25,7 @@ pub(crate) fn judge<D: Desk>(
     ensures reads { Cause (result ≡ VerifyStatus.ReadFault) (D.read_faults desk.old) (D.read_faults desk.new) }
     ensures writes { Cause (result ≡ VerifyStatus.WriteFault) (D.write_faults desk.old) (D.write_faults desk.new) }
 {
-    accepted_text_is_optimal();
+    accepted_text_is_below();
     let _known = instance.n();
     if desk.bind_in(Inlet::Proof, path).is_err() {
         return VerifyStatus::ReadFault;
@@ -62,7 +62,13 @@ fn status_of(answer: Answer) -> VerifyStatus
     ensures { result ≡ answers.answer_status answer }
 {
     match answer {
-        Answer::Yes(_) => VerifyStatus::Verified,
+        Answer::Yes { length, bound } => {
+            if bound == length {
+                VerifyStatus::Verified
+            } else {
+                VerifyStatus::Within
+            }
+        }
         Answer::No(_, _) => VerifyStatus::Refused,
     }
 }

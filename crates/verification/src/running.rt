@@ -18,7 +18,8 @@ use tspwords::{VerifyWords, WordsError, read_verify_words};
 /// Does what the words of the verifier's command line say, of which the first is the program's name, and says how it ended.
 ///
 /// `INSTANCE PROOF` reads the instance to its end and then the proof, whoever wrote it, and prints `VERIFIED` and the length of a
-/// shortest tour where the proof is accepted, and else `REFUSED` and its first refusal with the line of it. Where the instance
+/// shortest tour where the proof is accepted with this as its bound, `WITHIN`, the length of the proof's tour and the bound where it is
+/// accepted with a lesser bound, and else `REFUSED` and its first refusal with the line of it. Where the instance
 /// fixes edges, its tours are those with each of them. A bad instance is told by `INSTANCE` and its first refusal, and no proof is
 /// opened then. Each file is opened once, and none is written.
 ///

@@ -5,7 +5,7 @@ ghost use Rattle.verification.specs.Codes.{code_of};
 /// How a run of the verifier ends, with the program's exit status.
 #[derive(Clone, Copy, Debug, PartialEq, Eq)]
 pub enum VerifyStatus {
-    /// The proof is accepted: no tour is shorter than the printed length.
+    /// The proof is accepted, and no tour is shorter than the printed length.
     Verified = 0,
     /// The words are not of the verifier's form.
     Usage = 2,
@@ -19,6 +19,8 @@ pub enum VerifyStatus {
     WriteFault = 7,
     /// Memory ran out.
     NoMemory = 9,
+    /// The proof is accepted, and no tour is shorter than the printed bound, which is below the printed length.
+    Within = 10,
 }
 
 impl VerifyStatus {
