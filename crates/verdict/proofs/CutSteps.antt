@@ -194,7 +194,6 @@ on_cut_forth j l h m at x xs e (comb_cut s ts ∷ cs) rest said n rise cuts tree
         };
       },
     )
-
 on_cut_forth j l h m at x xs e (odd_cut s ps ∷ cs) rest said n rise cuts trees =
     let head : odd_line (length ps) ≡ x = cc in
     subst (λ y. LeftOf j l (on_cut j h m at y) xs) head (

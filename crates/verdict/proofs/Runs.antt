@@ -3,12 +3,12 @@ use Rattle.std.proofs.Common.{◌≡◌, ℕ, zero, suc, ◌+◌, ◌^◌, ◌<�
 use Rattle.std.specs.Prelude.{◌↔◌, nat_lt, nat_le}
 use Rattle.std.specs.List.{flat_map, AllByRecursion}
 use Rattle.std.proofs.lemmas.Bool.{and_parts, ltb-true, leb-true}
-use Rattle.certdef.specs.Items.{Item, title_line, size_line, length_line, bound_line, tour_line, cuts_line, line, longest, in_bounds, fits, item_of}
+use Rattle.certdef.specs.Items.{Item, title_line, size_line, length_line, bound_line, tour_line, cuts_line, line, longest, fits, item_of}
 use Rattle.certdef.specs.Proofs.{Listed, Written, Proof, listed_items, tree_items, head_items, items, lines}
 use Rattle.certdef.specs.Accepted.{rises_in_cut}
 use Rattle.certdef.specs.Tests.{Tests}
 use Rattle.certdef.specs.Verdicts.{Stage, wants_title, yes, Outcome, go, refused, line_step, step, run, verdict_by}
-use Rattle.verdict.proofs.Left.{Good, LeftOf, LengthLeft, SizeLeft, TourLeft, TitleLeft}
+use Rattle.verdict.proofs.Left.{Good, LeftOf, SizeLeft, TourLeft, TitleLeft}
 use Rattle.verdict.proofs.CutSteps.{append_nil}
 use Rattle.verdict.proofs.Steps.{step_forth, step_back, end_forth, end_back}
 use Rattle.verdict.proofs.Lines.{item_said, item_again}

@@ -7,7 +7,7 @@ use Rattle.tspdef.specs.Instances.{Instance, length_in}
 use Rattle.tspdef.specs.Cuts.{IsCut}
 use Rattle.tspdef.specs.Paths.{Condition, absent, present, two, four, condition_at, is_decided, root}
 use Rattle.tspdef.specs.Bounds.{bound, needed}
-use Rattle.certdef.specs.Items.{Item, size_line, bound_line, tour_line, subtour_line, handle_line, tooth_line, odd_line, pair_line, edge_line, clique_line, leaf_line, city_line, cut_line, condition_line, open_line, item_of, longest}
+use Rattle.certdef.specs.Items.{Item, size_line, bound_line, tour_line, subtour_line, handle_line, tooth_line, pair_line, edge_line, clique_line, leaf_line, city_line, cut_line, condition_line, open_line, item_of, longest}
 use Rattle.certdef.specs.Proofs.{Listed, subtour_cut, comb_cut, odd_cut, Written, open_leaf, closed_leaf, edge_split, clique_split, Proof, lines, text}
 use Rattle.certdef.specs.Accepted.{from_zero, cut_of, cuts_of, closing_of, firsts, is_clique, name_cliques, LeavesRise, DepthsName, HasForm, most_bytes}
 use Rattle.certdef.specs.Tests.{Tests, verifier, is_tour_from_one, is_proper, is_cut, closes_leaf}
