@@ -178,11 +178,12 @@ usage_reads s c ends f = elim ends [
 verify_stores : (s : Status) (c : Call) → Verifies s c → s ≡ status.StoreFault → ⊥
 verify_stores s c ends f = elim ends.desk [
   | inl (e, x) ↦ let g : status.Verified ≡ status.StoreFault = sym e ∙ f in cc
-  | inr (inl (e, x)) ↦ let g : status.Refused ≡ status.StoreFault = sym e ∙ f in cc
-  | inr (inr (inl (e, x))) ↦ let g : status.BadInstance ≡ status.StoreFault = sym e ∙ f in cc
-  | inr (inr (inr (inl (e, x)))) ↦ let g : status.ReadFault ≡ status.StoreFault = sym e ∙ f in cc
-  | inr (inr (inr (inr (inl (e, x))))) ↦ let g : status.WriteFault ≡ status.StoreFault = sym e ∙ f in cc
-  | inr (inr (inr (inr (inr (e, x))))) ↦ let g : status.NoMemory ≡ status.StoreFault = sym e ∙ f in cc
+  | inr (inl (e, x)) ↦ let g : status.VerifiedWithin ≡ status.StoreFault = sym e ∙ f in cc
+  | inr (inr (inl (e, x))) ↦ let g : status.Refused ≡ status.StoreFault = sym e ∙ f in cc
+  | inr (inr (inr (inl (e, x)))) ↦ let g : status.BadInstance ≡ status.StoreFault = sym e ∙ f in cc
+  | inr (inr (inr (inr (inl (e, x))))) ↦ let g : status.ReadFault ≡ status.StoreFault = sym e ∙ f in cc
+  | inr (inr (inr (inr (inr (inl (e, x)))))) ↦ let g : status.WriteFault ≡ status.StoreFault = sym e ∙ f in cc
+  | inr (inr (inr (inr (inr (inr (e, x)))))) ↦ let g : status.NoMemory ≡ status.StoreFault = sym e ∙ f in cc
 ]
 
 -- ---- causes

@@ -1,12 +1,14 @@
 -- What follows where nothing fails.
-use Rattle.std.proofs.Common.{◌≡◌, ℕ, List, sym, subst, ◌∙◌, inl, inr, Option, Some, None, Ok, arith}
+use Rattle.std.proofs.Common.{◌≡◌, ℕ, List, sym, subst, ◌∙◌, inl, inr, Option, Some, None, Ok, arith, eq-eqb}
+use Rattle.std.specs.Prelude.{◌==◌, cond}
+use Rattle.std.proofs.lemmas.Bool.{cond-true, cond-false, ne_eqb}
 use Rattle.ports.specs.Outside.{BothTell, Cause}
 use Rattle.ports.specs.Desk.{Told}
 use Rattle.tspdef.specs.Instances.{Instance}
 use Rattle.tspinst.specs.Texts.{InstanceText}
 use Rattle.certdef.specs.Accepted.{IsAcceptedText}
 use Rattle.tspwords.specs.Program.{instance_word}
-use Rattle.verification.specs.Headline.{BadInstance, Refused}
+use Rattle.verification.specs.Headline.{Verified, Within, BadInstance, Refused}
 use Rattle.verification.specs.Paths.{Paths}
 use Rattle.verification.specs.Counts.{IsCalm, IsTold}
 use Rattle.tspengine.specs.Calls.{Call}
@@ -68,35 +70,55 @@ small_bench_completes s c ends causes = λ call small calm. elim (ends.bench cal
 one_instance : (bytes : List ℕ) (i j : Instance) → InstanceText bytes i → InstanceText bytes j → i ≡ j
 one_instance bytes i j p q = let e : Ok i ≡ Ok j = sym p ∙ q in cc
 
--- an accepted one is not refused
-not_refused : (paths : Paths) (i : Instance) (l : ℕ) (a b : Option Told) → IsTold (λ t. InstanceText t.instance i × IsAcceptedText i t.proof_in l) a → BothTell (Refused paths) a b → ⊥
-not_refused paths i l None b told run = told
-not_refused paths i l (Some t) None told run = run
-not_refused paths i l (Some t) (Some u) told run =
-    run.accepted_with_no_length l (subst (λ (x : Instance). IsAcceptedText x t.proof_in l) (one_instance t.instance i run.instance told.0 run.instance_text) told.1)
+abbrev AcceptedAs : Instance → ℕ → ℕ → Told → Type 0
+AcceptedAs i l b t = InstanceText t.instance i × IsAcceptedText i t.proof_in l b
 
-instance_told : (i : Instance) (l : ℕ) (a : Option Told) → IsTold (λ t. InstanceText t.instance i × IsAcceptedText i t.proof_in l) a → IsTold (λ t. InstanceText t.instance i) a
-instance_told i l None told = told
-instance_told i l (Some t) told = told.0
+-- an accepted one is not refused
+not_refused : (paths : Paths) (i : Instance) (l m : ℕ) (a b : Option Told) → IsTold (AcceptedAs i l m) a → BothTell (Refused paths) a b → ⊥
+not_refused paths i l m None b told run = told
+not_refused paths i l m (Some t) None told run = run
+not_refused paths i l m (Some t) (Some u) told run =
+    run.accepted_with_no_length l m (subst (λ (x : Instance). IsAcceptedText x t.proof_in l m) (one_instance t.instance i run.instance told.0 run.instance_text) told.1)
+
+-- it is verified with its own length and bound
+as_verified : (paths : Paths) (i : Instance) (l m : ℕ) (a b : Option Told) → IsTold (AcceptedAs i l m) a → BothTell (Verified paths) a b → m ≡ l
+as_verified paths i l m None b told run = absurd told
+as_verified paths i l m (Some t) None told run = absurd run
+as_verified paths i l m (Some t) (Some u) told run =
+    let only = run.accepted_with_no_other l m (subst (λ (x : Instance). IsAcceptedText x t.proof_in l m) (one_instance t.instance i run.instance told.0 run.instance_text) told.1) in
+    only.1 ∙ sym only.0
+
+as_within : (paths : Paths) (i : Instance) (l m : ℕ) (a b : Option Told) → IsTold (AcceptedAs i l m) a → BothTell (Within paths) a b → m ≡ l → ⊥
+as_within paths i l m None b told run e = told
+as_within paths i l m (Some t) None told run e = run
+as_within paths i l m (Some t) (Some u) told run e =
+    let only = run.accepted_with_no_other l m (subst (λ (x : Instance). IsAcceptedText x t.proof_in l m) (one_instance t.instance i run.instance told.0 run.instance_text) told.1) in
+    let x = only.0 in let y = only.1 in let below = run.below in omega arith
+
+instance_told : (i : Instance) (l m : ℕ) (a : Option Told) → IsTold (AcceptedAs i l m) a → IsTold (λ t. InstanceText t.instance i) a
+instance_told i l m None told = told
+instance_told i l m (Some t) told = told.0
 
 verify_completes : (s : Status) (c : Call) → Ends s c → HasCauses s c → VerifyCompletes s c
 verify_completes s c ends causes = λ i call told calm. elim (ends.verify call).desk [
   | inl (e, x) ↦ inl e
   | inr (inl (e, x)) ↦ inr (inl e)
-  | inr (inr (inl (e, x))) ↦ absurd (not_bad (instance_word c.words) i c.before.desk c.after.desk told x)
-  | inr (inr (inr (inl (e, x)))) ↦ absurd (no_fault (s ≡ status.ReadFault) _ _ causes.reads calm.reads e)
-  | inr (inr (inr (inr (inl (e, x))))) ↦ absurd (no_fault (s ≡ status.WriteFault) _ _ causes.writes calm.writes e)
-  | inr (inr (inr (inr (inr (e, x))))) ↦ inr (inr e)
+  | inr (inr (inl (e, x))) ↦ inr (inr (inl e))
+  | inr (inr (inr (inl (e, x)))) ↦ absurd (not_bad (instance_word c.words) i c.before.desk c.after.desk told x)
+  | inr (inr (inr (inr (inl (e, x))))) ↦ absurd (no_fault (s ≡ status.ReadFault) _ _ causes.reads calm.reads e)
+  | inr (inr (inr (inr (inr (inl (e, x)))))) ↦ absurd (no_fault (s ≡ status.WriteFault) _ _ causes.writes calm.writes e)
+  | inr (inr (inr (inr (inr (inr (e, x)))))) ↦ inr (inr (inr e))
 ]
 
 accepted_completes : (s : Status) (c : Call) → Ends s c → HasCauses s c → AcceptedCompletes s c
-accepted_completes s c ends causes = λ i l call told calm. elim (ends.verify call).desk [
-  | inl (e, x) ↦ inl e
-  | inr (inl (e, x)) ↦ absurd (not_refused (paths_of c.words) i l c.before.desk c.after.desk told x)
-  | inr (inr (inl (e, x))) ↦ absurd (not_bad (instance_word c.words) i c.before.desk c.after.desk (instance_told i l c.before.desk told) x)
-  | inr (inr (inr (inl (e, x)))) ↦ absurd (no_fault (s ≡ status.ReadFault) _ _ causes.reads calm.reads e)
-  | inr (inr (inr (inr (inl (e, x))))) ↦ absurd (no_fault (s ≡ status.WriteFault) _ _ causes.writes calm.writes e)
-  | inr (inr (inr (inr (inr (e, x))))) ↦ inr e
+accepted_completes s c ends causes = λ i l m call told calm. elim (ends.verify call).desk [
+  | inl (e, x) ↦ inl (e ∙ sym (cond-true (m == l) status.Verified status.VerifiedWithin (eq-eqb m l (as_verified (paths_of c.words) i l m c.before.desk c.after.desk told x))))
+  | inr (inl (e, x)) ↦ inl (e ∙ sym (cond-false (m == l) status.Verified status.VerifiedWithin (ne_eqb m l (as_within (paths_of c.words) i l m c.before.desk c.after.desk told x))))
+  | inr (inr (inl (e, x))) ↦ absurd (not_refused (paths_of c.words) i l m c.before.desk c.after.desk told x)
+  | inr (inr (inr (inl (e, x)))) ↦ absurd (not_bad (instance_word c.words) i c.before.desk c.after.desk (instance_told i l m c.before.desk told) x)
+  | inr (inr (inr (inr (inl (e, x))))) ↦ absurd (no_fault (s ≡ status.ReadFault) _ _ causes.reads calm.reads e)
+  | inr (inr (inr (inr (inr (inl (e, x)))))) ↦ absurd (no_fault (s ≡ status.WriteFault) _ _ causes.writes calm.writes e)
+  | inr (inr (inr (inr (inr (inr (e, x)))))) ↦ inr e
 ]
 
 -- a call of `run` that ends so, and by these causes

@@ -20,11 +20,12 @@ same_paths words v says = ap (λ (x : List ℕ). record { instance = x; proof = 
 verifies_at : (v : VerifyStatus) (c : Call) → v ≢ checked.Usage → SlotsKept c → BothTell (Ends (paths_of c.words) v) c.before.desk c.after.desk → Verifies (status_of v) c
 verifies_at checked.Verified c used kept ends = record { desk = inl (refl, ends); slots = kept }
 verifies_at checked.Usage c used kept ends = absurd (used refl)
-verifies_at checked.BadInstance c used kept ends = record { desk = inr (inr (inl (refl, ends))); slots = kept }
-verifies_at checked.Refused c used kept ends = record { desk = inr (inl (refl, ends)); slots = kept }
-verifies_at checked.ReadFault c used kept ends = record { desk = inr (inr (inr (inl (refl, ends)))); slots = kept }
-verifies_at checked.WriteFault c used kept ends = record { desk = inr (inr (inr (inr (inl (refl, ends))))); slots = kept }
-verifies_at checked.NoMemory c used kept ends = record { desk = inr (inr (inr (inr (inr (refl, ends))))); slots = kept }
+verifies_at checked.Within c used kept ends = record { desk = inr (inl (refl, ends)); slots = kept }
+verifies_at checked.BadInstance c used kept ends = record { desk = inr (inr (inr (inl (refl, ends)))); slots = kept }
+verifies_at checked.Refused c used kept ends = record { desk = inr (inr (inl (refl, ends))); slots = kept }
+verifies_at checked.ReadFault c used kept ends = record { desk = inr (inr (inr (inr (inl (refl, ends))))); slots = kept }
+verifies_at checked.WriteFault c used kept ends = record { desk = inr (inr (inr (inr (inr (inl (refl, ends)))))); slots = kept }
+verifies_at checked.NoMemory c used kept ends = record { desk = inr (inr (inr (inr (inr (inr (refl, ends)))))); slots = kept }
 
 pub verifies : (v : VerifyStatus) (w : VerifyWords) (c : Call) → SaysVerify c.words w → v ≢ checked.Usage → SlotsKept c
     → BothTell (Ends (paths_in w) v) c.before.desk c.after.desk → Verifies (status_of v) c

@@ -3,7 +3,7 @@ use Rattle.tspdef.specs.Tours.{IsCanonicalForm}
 use Rattle.tspdef.specs.Instances.{Instance, IsInstance, IsTourOf, length_in}
 use Rattle.tspdef.specs.Paths.{Condition, root, absent, present, two, four}
 use Rattle.tspdef.specs.Trees.{Tree, open_leaf, closed_leaf, edge_split, clique_split, IsSoundFor, open_leaves, settled}
-use Rattle.tspdef.specs.Laws.{AcceptedIsOptimal, SameCycleIsSameTour, CanonicalFormIsOne}
+use Rattle.tspdef.specs.Laws.{AcceptedIsBelow, SameCycleIsSameTour, CanonicalFormIsOne}
 use Rattle.certdef.specs.Proofs.{text}
 use Rattle.certdef.specs.Accepted.{from_zero, tree_in, IsAcceptedText}
 use Rattle.certdef.specs.Restarts.{ClosedIsAccepted}
@@ -59,31 +59,31 @@ alike_split P path (clique_split s p q) (clique_split r c d) a n =
     )
 
 -- what is written of a search without an open node is a proof of the tour that is printed
-pub written_optimal : WrittenIsFaithful → FaithfulIsAccepted → ClosedIsAccepted → AcceptedIsOptimal → SameCycleIsSameTour → CanonicalFormIsOne
+pub written_optimal : WrittenIsFaithful → FaithfulIsAccepted → ClosedIsAccepted → AcceptedIsBelow → SameCycleIsSameTour → CanonicalFormIsOne
     → (i : Instance) (budget : ℕ) (best tour : List ℕ) (l : ℕ) (t : Tree) (proof printed line : List ℕ) → IsInstance i → IsTourOf i best → l ≡ length_in i best
     → IsSoundFor i l t → IsFitting i.n (root i) t → open_leaves t + settled t ≤ 1048576 → open_leaves t ≡ 0 → settled t ≤ budget
-    → IsBody i best t proof → IsCanonicalForm best tour → printed ≡ optimal_text l tour → line ≡ length_text l → IsProofOf i budget proof printed line
+    → IsBody i best l t proof → IsCanonicalForm best tour → printed ≡ optimal_text l tour → line ≡ length_text l → IsProofOf i budget proof printed line
 written_optimal faithful_law accepted_law closed_law optimal_law same_law one_law i budget best tour l t proof printed line is is_best long sound fits few none spent (form, is_form, bytes) is_tour prints lined =
     let many = is.many in
     let one = one_law i best form tour many is_best is_form is_tour in
     let same = same_law i best tour is_best is_tour.same in
     let as_long : l ≡ length_in i tour = long ∙ sym same.long in
-    let faithful = faithful_law i tour l t is same.is_tour is_tour.canonical as_long sound fits few in
-    let e : proof ≡ text (written i.n tour l t) = bytes ∙ ap (λ (f : List ℕ). text (written i.n f (length_in i f) t)) one
-    ∙ ap (λ (m : ℕ). text (written i.n tour m t)) (sym as_long) in
-    let short : (other : List ℕ) → IsTourOf i other → l ≤ length_in i other = λ other o. optimal_law i tour other l t many (record { is_tour = same.is_tour; canonical = is_tour.canonical; long = as_long; sound = sound; none_open = none }) o in
-    let accepted = subst (λ (b : List ℕ). IsAcceptedText i b l) (sym e) (accepted_law i l t (written i.n tour l t) faithful none) in
+    let faithful = faithful_law i tour l l t is same.is_tour is_tour.canonical as_long (omega arith) sound fits few in
+    let e : proof ≡ text (written i.n tour l l t) = bytes ∙ ap (λ (f : List ℕ). text (written i.n f (length_in i f) l t)) one
+    ∙ ap (λ (m : ℕ). text (written i.n tour m l t)) (sym as_long) in
+    let short : (other : List ℕ) → IsTourOf i other → l ≤ length_in i other = λ other o. optimal_law i tour other l l t many (record { is_tour = same.is_tour; canonical = is_tour.canonical; long = as_long; below = omega arith; sound = sound; none_open = none }) o in
+    let accepted = subst (λ (b : List ℕ). IsAcceptedText i b l l) (sym e) (accepted_law i l l t (written i.n tour l l t) faithful none) in
     record {
       tour = tour;
       length = l;
       optimal = record {
-        value = written i.n tour l t;
+        value = written i.n tour l l t;
         is_tour = same.is_tour;
         canonical = is_tour.canonical;
         long = as_long;
         shortest = short;
         accepted = accepted;
-        written = record { text = e; form = faithful.form; accepted = closed_law i l (written i.n tour l t) faithful.sound (faithful.opened ∙ none) };
+        written = record { text = e; form = faithful.form; accepted = closed_law i l l (written i.n tour l l t) faithful.sound (faithful.opened ∙ none) };
         same = from_zero-from_one tour;
         few = subst (λ (k : ℕ). k ≤ budget) (sym faithful.settled) spent;
       };
@@ -96,13 +96,13 @@ pub written_stopped : WrittenIsFaithful → SameCycleIsSameTour
     → (i : Instance) (budget : ℕ) (best opening : List ℕ) (l : ℕ) (t : Tree) (body printed : List ℕ) → IsInstance i → IsTourOf i best → l ≡ length_in i best
     → IsOpeningTour i opening → l ≤ length_in i opening
     → IsSoundFor i l t → IsFitting i.n (root i) t → open_leaves t + settled t ≤ 1048576 → 0 < open_leaves t → settled t ≡ budget
-    → SplitsAreNeeded i (opening_length i) t → IsBody i best t body → printed ≡ stopped_text l (open_leaves t) → IsBodyOf i budget body printed
+    → SplitsAreNeeded i (opening_length i) t → IsBody i best l t body → printed ≡ stopped_text l (open_leaves t) → IsBodyOf i budget body printed
 written_stopped faithful_law same_law i budget best opening l t body printed is is_best long opened shorter sound fits few some spent needed (form, is_form, bytes) prints =
     let same = same_law i best form is_best is_form.same in
     let as_long : l ≡ length_in i form = long ∙ sym same.long in
-    let faithful = faithful_law i form l t is same.is_tour is_form.canonical as_long sound fits few in
+    let faithful = faithful_law i form l l t is same.is_tour is_form.canonical as_long (omega arith) sound fits few in
     record {
-      body = written i.n form l t;
+      body = written i.n form l l t;
       stopped = record {
         form = faithful.form;
         sound = faithful.sound;
@@ -111,8 +111,8 @@ written_stopped faithful_law same_law i budget best opening l t body printed is 
         no_longer = shorter;
         some_open = subst (λ (k : ℕ). 0 < k) (sym faithful.opened) some;
         settled = faithful.settled ∙ spent;
-        needed = alike_split (λ at b. IsNeededSplit i at (opening_length i) b) (root i) t (tree_in i.n (written i.n form l t)) faithful.alike needed;
+        needed = alike_split (λ at b. IsNeededSplit i at (opening_length i) b) (root i) t (tree_in i.n (written i.n form l l t)) faithful.alike needed;
       };
-      is_text = bytes ∙ ap (λ (m : ℕ). text (written i.n form m t)) (sym as_long);
+      is_text = bytes ∙ ap (λ (m : ℕ). text (written i.n form m l t)) (sym as_long);
       prints = prints ∙ ap (stopped_text l) (sym faithful.opened);
     }

@@ -6,6 +6,7 @@ use Rattle.tspengine.specs.declared.statuses.Status.TheVariants as status
 abbrev pub code_of : Status → ℕ
 code_of status.Optimal = 0
 code_of status.Verified = 0
+code_of status.VerifiedWithin = 10
 code_of status.Toured = 0
 code_of status.Benched = 0
 code_of status.Usage = 2

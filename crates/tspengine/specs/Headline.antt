@@ -34,8 +34,8 @@ pub record Optimal (c : Call) : Type 0 where
   pub tour_visits_each_city_once : IsTourOf instance tour × IsCanonical tour
   pub tour_has_this_length : length ≡ length_in instance tour
   pub no_tour_is_shorter : (other : List ℕ) → IsTourOf instance other → length ≤ length_in instance other
-  pub proof_is_accepted : IsAcceptedText instance proof length
-  pub proof_text : IsTextOf instance proof length value × (from_zero value.tour ≡ tour)
+  pub proof_is_accepted : IsAcceptedText instance proof length length
+  pub proof_text : IsTextOf instance proof length length value × (from_zero value.tour ≡ tour)
   pub within_budget : settled (tree_in instance.n value) ≤ budget_of c.words
   pub desk : DeskIs (λ t. prints (optimal_text length tour) (writes (proof_word c.words) proof (reads (instance_word c.words) t))) c
   pub slots : SlotsAre (λ t. synced (with_path (restart_word c.words) t)) c
@@ -48,7 +48,7 @@ pub record Stopped (c : Call) : Type 0 where
   pub body : Proof
   pub opening : List ℕ
   pub bytes_read : DeskHad (λ t. InstanceText t.instance instance) c
-  pub body_is_sound : HasForm instance.n body × IsSoundProof instance body.long body
+  pub body_is_sound : HasForm instance.n body × IsSoundProof instance body.long body.long body
   pub no_longer_than_opening : IsOpeningTour instance opening × (body.long ≤ length_in instance opening)
   pub a_node_is_open : 0 < open_leaves (tree_in instance.n body)
   pub budget_is_settled : settled (tree_in instance.n body) ≡ budget_of c.words
@@ -77,8 +77,8 @@ pub record Benched (c : Call) : Type 0 where
   pub proof : List ℕ
   pub value : Proof
   pub no_tour_is_shorter : (tour : List ℕ) → IsTourOf (drawn_by c.words) tour → length ≤ length_in (drawn_by c.words) tour
-  pub proof_is_accepted : IsAcceptedText (drawn_by c.words) proof length
-  pub proof_text : IsTextOf (drawn_by c.words) proof length value
+  pub proof_is_accepted : IsAcceptedText (drawn_by c.words) proof length length
+  pub proof_text : IsTextOf (drawn_by c.words) proof length length value
   pub within_budget : settled (tree_in (drawn_by c.words).n value) ≤ budget_of c.words
   pub desk : DeskIs (λ t. prints (length_text length) (writes (out_word c.words) proof t)) c
   pub slots : SlotsKept c
@@ -87,7 +87,7 @@ pub record Benched (c : Call) : Type 0 where
 pub record BenchStopped (c : Call) : Type 0 where
   pub body : Proof
   pub opening : List ℕ
-  pub body_is_sound : HasForm (drawn_by c.words).n body × IsSoundProof (drawn_by c.words) body.long body
+  pub body_is_sound : HasForm (drawn_by c.words).n body × IsSoundProof (drawn_by c.words) body.long body.long body
   pub no_longer_than_opening : IsOpeningTour (drawn_by c.words) opening × (body.long ≤ length_in (drawn_by c.words) opening)
   pub a_node_is_open : 0 < open_leaves (tree_in (drawn_by c.words).n body)
   pub budget_is_settled : settled (tree_in (drawn_by c.words).n body) ≡ budget_of c.words

@@ -21,8 +21,8 @@ pub record IsOptimal (i : Instance) (budget : ℕ) (tour : List ℕ) (length : �
   pub canonical : IsCanonical tour
   pub long : length ≡ length_in i tour
   pub shortest : (other : List ℕ) → IsTourOf i other → length ≤ length_in i other
-  pub accepted : IsAcceptedText i proof length
-  pub written : IsTextOf i proof length value
+  pub accepted : IsAcceptedText i proof length length
+  pub written : IsTextOf i proof length length value
   pub same : from_zero value.tour ≡ tour
   pub few : settled (tree_in i.n value) ≤ budget
 
@@ -31,7 +31,7 @@ pub record IsOptimal (i : Instance) (budget : ℕ) (tour : List ℕ) (length : �
 -- opening length, and below six cities the split is by a pair.
 pub record IsStopped (i : Instance) (budget : ℕ) (body : Proof) : Type 0 where
   pub form : HasForm i.n body
-  pub sound : IsSoundProof i body.long body
+  pub sound : IsSoundProof i body.long body.long body
   pub opening : List ℕ
   pub is_opening : IsOpeningTour i opening
   pub no_longer : body.long ≤ length_in i opening

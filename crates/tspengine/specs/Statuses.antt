@@ -7,6 +7,7 @@ use Rattle.tspengine.specs.declared.statuses.Status.TheVariants as status
 -- the status of a run that ends as the verifier does
 abbrev pub status_of : VerifyStatus → Status
 status_of checked.Verified = status.Verified
+status_of checked.Within = status.VerifiedWithin
 status_of checked.Usage = status.Usage
 status_of checked.BadInstance = status.BadInstance
 status_of checked.Refused = status.Refused

@@ -16,7 +16,7 @@ use grunt::LpWorker;
 use opening::find_opening;
 use std::alloc::{AllocError, Global};
 use treesearch::{Found, search, searches_of_few_cities_end};
-use tspdef::{accepted_is_optimal, tours_are_cycles};
+use tspdef::{accepted_is_below, tours_are_cycles};
 use tspinst::Instance;
 
 /// What came of an instance, with the text to print.
@@ -49,7 +49,7 @@ pub(crate) fn outcome_of(
     searches_of_few_cities_end();
     let opening = find_opening(alloc, instance, seed)?;
     let found = search(alloc, instance, opening, &LpWorker, budget, seed)?;
-    let body = body(alloc, instance, &found.best, &found.tree)?;
+    let body = body(alloc, instance, &found.best, &found.tree, found.length)?;
     if found.tree.open_nodes() == 0 {
         optimal(alloc, instance, &found, body)
     } else {
@@ -67,11 +67,11 @@ fn optimal(
     requires found { IsFound IsNeededSplit instance.now found.now }
     requires few { length found.now.tree.nodes ≤ 1048576 }
     requires none_open { open_leaves (tree_of found.now.tree.nodes) ≡ 0 }
-    requires proof { IsBody instance.now found.now.best (tree_of found.now.tree.nodes) proof.items }
+    requires proof { IsBody instance.now found.now.best found.now.length (tree_of found.now.tree.nodes) proof.items }
     ensures outcome { (budget : ℕ) → settled (tree_of found.now.tree.nodes) ≤ budget → IfOk result (IsOutcome instance.now budget) }
     ensures proof { IfOk result IsProof }
 {
-    accepted_is_optimal();
+    accepted_is_below();
     closed_is_accepted();
     tours_are_cycles();
     tables_fit();
@@ -99,7 +99,7 @@ fn stopped(
     requires few { length found.now.tree.nodes ≤ 1048576 }
     requires some_open { 0 < open_leaves (tree_of found.now.tree.nodes) }
     requires settled { settled (tree_of found.now.tree.nodes) ≡ budget }
-    requires body { IsBody instance.now found.now.best (tree_of found.now.tree.nodes) body.items }
+    requires body { IsBody instance.now found.now.best found.now.length (tree_of found.now.tree.nodes) body.items }
     ensures { (opening : List ℕ) → IsOpeningTour instance.now opening → found.now.length ≤ length_in instance.now opening
         → IfOk result (IsOutcome instance.now budget) }
 {

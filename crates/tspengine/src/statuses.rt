@@ -11,8 +11,10 @@ use verification::VerifyStatus;
 pub enum Status {
     /// A shortest tour was printed, and its proof written.
     Optimal,
-    /// The proof is accepted: no tour is shorter than the printed length.
+    /// The proof is accepted, and no tour is shorter than the printed length.
     Verified,
+    /// The proof is accepted, and no tour is shorter than the printed bound, which is below the printed length.
+    VerifiedWithin,
     /// A tour of the instance was printed.
     Toured,
     /// The proof for a drawn instance was written, and its length printed.
@@ -52,6 +54,7 @@ impl Status {
             Status::WriteFault => 7,
             Status::StoreFault => 8,
             Status::NoMemory => 9,
+            Status::VerifiedWithin => 10,
         }
     }
 }
@@ -62,6 +65,7 @@ pub(crate) fn status_of(status: VerifyStatus) -> Status
 {
     match status {
         VerifyStatus::Verified => Status::Verified,
+        VerifyStatus::Within => Status::VerifiedWithin,
         VerifyStatus::Usage => Status::Usage,
         VerifyStatus::BadInstance => Status::BadInstance,
         VerifyStatus::Refused => Status::Refused,

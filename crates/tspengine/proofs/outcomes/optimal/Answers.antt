@@ -16,6 +16,6 @@ returns-clause-outcome c = λ budget spent.
     let fits = c.tables_fit.ensures.fit i.n i.fixed f.tree.nodes is_table in
     let few : open_leaves t + settled t ≤ 1048576 =
     let all = c.nodes.ensures.counted in let number = c.nodes.ensures.number in let most = c.requires.few in omega arith in
-    written_optimal c.written_is_faithful.ensures c.tables_fit.ensures.accepted c.closed_is_accepted.ensures c.accepted_is_optimal.ensures c.tours_are_cycles.ensures.same c.tours_are_cycles.ensures.one
+    written_optimal c.written_is_faithful.ensures c.tables_fit.ensures.accepted c.closed_is_accepted.ensures c.accepted_is_below.ensures c.tours_are_cycles.ensures.same c.tours_are_cycles.ensures.one
     i budget f.best c.in_ok-tour.tour f.length t c.args.proof.items c.in_ok-printed.printed.items c.in_ok-line.line.items c.n.ensures.instance was.is_tour was.long was.sound fits few c.requires.none_open spent
     c.requires.proof c.in_ok-tour.ensures (c.in_ok-printed.ensures ∙ ap (optimal_text f.length) c.cities.ensures.value) c.in_ok-line.ensures
