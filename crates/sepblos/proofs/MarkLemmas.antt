@@ -1,12 +1,12 @@
 -- Marks on the cities of sets.
-use Rattle.std.proofs.Common.{◌≡◌, ℕ, ◌+◌, ◌<◌, ◌≤◌, Bool, true, false, ◌||◌, List, [], ◌∷◌, ◌++◌, length, take, get_or, refl, sym, ap, ◌∙◌, arith}
+use Rattle.std.proofs.Common.{◌≡◌, ℕ, ◌+◌, ◌<◌, ◌≤◌, Bool, true, false, ◌||◌, List, [], ◌∷◌, ◌++◌, length, map, take, get_or, refl, sym, ap, ◌∙◌, arith}
 use Rattle.std.proofs.lemmas.Bool.{ne_eqb, or_parts}
 use Rattle.std.proofs.lemmas.List.{take_more}
 use Rattle.cutform.proofs.SetLemmas.{has-push, cities-more}
-use Rattle.cutform.specs.Cut.{cities_of_each}
+use Rattle.cutform.specs.Cut.{cities_of_each, wide_sets, pairs_of}
 use Rattle.cyc.specs.CitySet.{Members}
 use Rattle.tspdef.specs.Sets.{has, RisesFrom, IsSet}
-use Rattle.tspdef.specs.Cuts.{coefficient}
+use Rattle.tspdef.specs.Cuts.{Cut, subtour, comb, odd, pair_set, sets_of, coefficient}
 use Rattle.sepblos.specs.Violated.{is_in_any}
 
 or_none : (b : Bool) → (b || false) ≡ b
@@ -57,3 +57,13 @@ set_push k xs s = rises_push k 0 xs (omega arith) s
 
 pub set_wider : (k : ℕ) (xs : List ℕ) → IsSet k xs → IsSet (k + 1) xs
 set_wider k xs s = rises_wider k 0 xs s
+
+-- the sets of a cut are its wide ones and its pairs
+pub any_of_cut : (c : Cut) (city : ℕ) → is_in_any (sets_of c) city ≡ (is_in_any (wide_sets c) city || is_in_any (map pair_set (pairs_of c)) city)
+any_of_cut (subtour n s) city = sym (or_none (has s city || false))
+any_of_cut (comb n h ts) city = sym (or_none (has h city || is_in_any ts city))
+any_of_cut (odd n h ps) city = ap (λ b. b || is_in_any (map pair_set ps) city) (sym (or_none (has h city)))
+
+-- the next pair after those whose ends are marked
+pub pair_more : (old new : Bool) (p : ℕ × ℕ) (ps : List (ℕ × ℕ)) (c : ℕ) (t : Bool) → new ≡ (old || has (pair_set p) c) → (old || is_in_any (map pair_set (p ∷ ps)) c) ≡ t → (new || is_in_any (map pair_set ps) c) ≡ t
+pair_more old new p ps c t e h = ap (λ b. b || is_in_any (map pair_set ps) c) e ∙ (sym (or_assoc old (has (pair_set p) c) (is_in_any (map pair_set ps) c)) ∙ h)

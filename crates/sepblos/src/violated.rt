@@ -54,7 +54,6 @@ fn is_violated(alloc: Global, x: &Frac, cut: &Cut) -> Result<bool, AllocError>
 }
 
 /// Which of n cities are in a set of the cut.
-#[tactic(auto, using(crate::proofs::MarkLemmas::marks_of_cut))]
 fn marks_of(alloc: Global, n: u32, cut: &Cut) -> Result<Vec<bool>, AllocError>
     ensures { IfOk result (λ marks. AreMarksOf n cut.now marks.items) }
 {

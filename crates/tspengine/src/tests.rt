@@ -795,6 +795,7 @@ fn statuses_have_their_codes(rt: HostRuntime) -> Result<(), Fail> {
         (Status::WriteFault, 7),
         (Status::StoreFault, 8),
         (Status::NoMemory, 9),
+        (Status::VerifiedWithin, 10),
     ];
     for (status, code) in codes {
         assert_eq!(rt; status.code(), code);

@@ -24,3 +24,5 @@ pub use statuses::VerifyStatus;
 mod table_tests;
 #[cfg(test)]
 mod tests;
+#[cfg(test)]
+mod within_tests;

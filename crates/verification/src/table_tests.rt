@@ -6,12 +6,12 @@ use std::alloc::{AllocError, Global};
 use std::test::Fail;
 
 /// What the verifier prints for the square and a proof.
-fn printed(alloc: Global, proof: &str) -> Result<String, AllocError> {
+pub(crate) fn printed(alloc: Global, proof: &str) -> Result<String, AllocError> {
     printed_for(alloc, SQUARE, proof)
 }
 
 /// What it prints for an instance and a proof.
-fn printed_for(alloc: Global, instance: &str, proof: &str) -> Result<String, AllocError> {
+pub(crate) fn printed_for(alloc: Global, instance: &str, proof: &str) -> Result<String, AllocError> {
     let ended = verified(alloc, instance, proof)?;
     let mut text = format!(in alloc; "")?;
     for byte in ended.desk.text() {
@@ -25,7 +25,9 @@ fn printed_for(alloc: Global, instance: &str, proof: &str) -> Result<String, All
 fn titles_and_sizes(rt: HostRuntime) -> Result<(), Fail> {
     let alloc = rt.alloc();
     for (number, line, want) in [
-        (1, "TSPCERT 2", "1 1"),
+        (1, "TSPCERT 2", "1 4"),
+        (1, "TSPCERT 3", "1 1"),
+        (1, "TSPCERT 0", "1 1"),
         (1, "TSPCERT 01", "1 1"),
         (1, " TSPCERT 1", "1 1"),
         (1, "tspcert 1", "1 1"),

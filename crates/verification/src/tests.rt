@@ -467,6 +467,7 @@ fn statuses_have_their_codes(rt: HostRuntime) -> Result<(), Fail> {
         (VerifyStatus::ReadFault, 6),
         (VerifyStatus::WriteFault, 7),
         (VerifyStatus::NoMemory, 9),
+        (VerifyStatus::Within, 10),
     ] {
         assert_eq!(rt; status.code(), code);
     }
