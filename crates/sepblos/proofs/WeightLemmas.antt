@@ -1,16 +1,16 @@
 -- What values add up to over a cut, entry by entry, and how large that is.
 use Rattle.std.proofs.Common.{◌≡◌, ℕ, zero, suc, ◌+◌, ◌*◌, ◌^◌, ◌<◌, ◌≤◌, Bool, true, false, not, cond, List, [], ◌∷◌, length, take, get_or, sum_by, ℤ, leb, pos, ◌-ℤ◌, refl, ap, arith}
-use Rattle.std.specs.Prelude.{◌≤ℤ◌}
+use Rattle.std.specs.Prelude.{◌+ℤ◌, ◌≤ℤ◌}
 use Rattle.std.proofs.Math.Nat.{mul-le-mul}
 use Rattle.std.proofs.lemmas.Bool.{leb-true, le-leb}
 use Rattle.std.proofs.lemmas.Int.{ints}
 use Rattle.std.proofs.lemmas.List.Elements.{All-from_recursion}
 use Rattle.tspdef.specs.Sets.{has}
 use Rattle.tspdef.specs.Sums.{sum_below, sum_pairs}
-use Rattle.tspdef.specs.Cuts.{Cut, subtour, comb, odd, sets_of, right_side, coefficient, IsCut}
+use Rattle.tspdef.specs.Cuts.{Cut, sets_of, right_side, coefficient, IsCut}
 use Rattle.tspdef.specs.Bounds.{scale, violation}
 use Rattle.tspdef.proofs.SumLemmas.{sum_pairs-le}
-use Rattle.tspdef.proofs.SmallCuts.{cuts_are_small}
+use Rattle.cutform.proofs.PartLemmas.{coefficient_few}
 use Rattle.cyc.specs.declared.frac.Entry.{Entry}
 use Rattle.cyc.specs.Frac.{Values, value_of, IsEntry, AreEntries}
 use Rattle.cyc.proofs.EntryLemmas.{value_small, entries_take}
@@ -46,7 +46,8 @@ below_flat : (c n : ℕ) → sum_below (λ k. pos c) n ≡ pos (n * c)
 below_flat c zero = omega (arith, ints)
 below_flat c (suc n) = let ih = below_flat c n in omega (arith, ints)
 
-pairs_flat : (c n : ℕ) → sum_pairs (λ u v. pos c) n ≤ℤ pos (n * n * c)
+-- twice the sum of one number over all pairs
+pairs_flat : (c n : ℕ) → (sum_pairs (λ u v. pos c) n +ℤ sum_pairs (λ u v. pos c) n) ≤ℤ pos (n * n * c)
 pairs_flat c zero = omega (arith, ints)
 pairs_flat c (suc n) = let ih = pairs_flat c n in let row = below_flat c n in omega (arith, ints)
 
@@ -69,14 +70,8 @@ weight_small n es ss few a most =
     let s = square_few n 4293893554176 few in
     omega (arith, ints, w, l, m, s)
 
--- no cut of 2,000 cities or fewer is crossed more often by a pair
-pub crossed_most : (n : ℕ) (c : Cut) → n ≤ 2000 → IsCut n c → (u v : ℕ) → coefficient (sets_of c) u v ≤ 3999
-crossed_most n (subtour m s) few is u v = let k = (cuts_are_small n (subtour m s) is).crossed u v in omega arith
-crossed_most n (comb m h ts) few is u v = let k = (cuts_are_small n (comb m h ts) is).crossed u v in omega arith
-crossed_most n (odd m h ps) few is u v = let k = (cuts_are_small n (odd m h ps) is).crossed u v in omega arith
-
 pub weight_fits : (n : ℕ) (es : List Entry) (i : ℕ) (c : Cut) → n ≤ 2000 → AreEntries n es → IsCut n c → weight_of (take i es) (sets_of c) < 2 ^ 63
-weight_fits n es i c few a is = weight_small n (take i es) (sets_of c) few (entries_take n i es a) (λ u v. crossed_most n c few is u v)
+weight_fits n es i c few a is = weight_small n (take i es) (sets_of c) few (entries_take n i es a) (λ u v. coefficient_few n c u v few is)
 
 pub entry_small : (n : ℕ) (es : List Entry) (i : ℕ) (d : Entry) → AreEntries n es → i < length es → (get_or es i d).x ≤ 2 ^ 30
 entry_small n es i d a h = (All-from_recursion (IsEntry n) es a.each i d h).small

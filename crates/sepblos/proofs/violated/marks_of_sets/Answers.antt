@@ -18,5 +18,5 @@ loop-set-preserved c =
       long = many;
       marked = λ k h.
           let more : slice_index_or new k false ≡ (slice_index_or old k false || has set.cities k) = rw (same, c.cities.ensures.value) at (c.mark.ensures.marked k (omega (arith, h, long, many))) in
-          more ∙ (ap (λ b. b || has set.cities k) (inv.marked k h) ∙ sym (any_more c.sets-set-items.result.now c.loop-set.set-index set k c.loop-set-test.true c.set-item.is));
+          more ∙ (ap (λ b. b || has set.cities k) (inv.marked k h) ∙ sym (any_more c.args.sets.now c.loop-set.set-index set k c.loop-set-test.true c.set-item.is));
     })
