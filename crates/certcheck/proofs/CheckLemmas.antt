@@ -62,15 +62,15 @@ yes_of (answers.Yes m k) v l b e = (
   (λ h. let x : m ≡ l = cc in let y : k ≡ b = cc in sym e ∙ (ap (λ q. yes q k) x ∙ ap (yes l) y)),
   (λ h. let x : m ≡ l = cc in let y : k ≡ b = cc in ap (λ q. answers.Yes q k) x ∙ ap (answers.Yes l) y),
 )
-yes_of (answers.No k at) v l e = ((λ h. cc), (λ h. cc))
+yes_of (answers.No k at) v l b e = ((λ h. cc), (λ h. cc))
 
 pub accepted_of : (i : Instance) (result : Result Answer CheckError) (t : Option Told) → i.n < 2 ^ 32 → YesIsAcceptedText → IfOk result (λ a. WhereTold (λ t. verdict_of a ≡ verdict i t.proof_in) t)
     → IfOk result (λ a. WhereTold (λ t. (l b : ℕ) → (a ≡ answers.Yes l b) ↔ IsAcceptedText i t.proof_in l b) t)
 accepted_of i (Err e) t few law h = tt
 accepted_of i (Ok a) None few law h = tt
-accepted_of i (Ok a) (Some t) few law h = λ l.
-    let one = yes_of a (verdict i t.proof_in) l h in
-    let two = law i t.proof_in l few in
+accepted_of i (Ok a) (Some t) few law h = λ l b.
+    let one = yes_of a (verdict i t.proof_in) l b h in
+    let two = law i t.proof_in l b few in
     ((λ x. two.0 (one.0 x)), (λ x. one.1 (two.1 x)))
 
 -- ---- each byte that is read counts

@@ -3,7 +3,7 @@ pub mod TreeLemmas
 pub mod PlaceLemmas
 pub mod Growing
 pub mod Covering
-pub mod Borne
+pub mod BornLemmas
 pub mod NodeLemmas
 pub mod CountLemmas
 pub mod KeptLemmas

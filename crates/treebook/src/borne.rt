@@ -5,7 +5,7 @@ ghost use Rattle.tspdef.specs.Bounds as defs;
 ghost use Rattle.pricer.specs.Sizes.{IsWithin};
 ghost use Rattle.treebook.specs.Tables.{IsTable, tree_of};
 ghost use Rattle.treebook.specs.Laws.{ClosesFor, IsGreatestBound};
-ghost use Rattle.treebook.proofs.Borne.{IsBorneAt};
+ghost use Rattle.treebook.specs.Borne.{IsBorneAt};
 
 use crate::laws::tables_are_sound;
 use crate::node::State;

@@ -1,5 +1,5 @@
 use Rattle.treebook.proofs.Covering.{closing_keeps_sound, splitting_keeps_sound, closed_tables_are_sound, less_is_kept}
-use Rattle.treebook.proofs.Borne.{sound_tables_close}
+use Rattle.treebook.proofs.BornLemmas.{sound_tables_close}
 use Rattle.treebook.proofs.laws.tables_are_sound.Goals as goal
 
 pub returns-clause-closing : goal.returns-clause-closing

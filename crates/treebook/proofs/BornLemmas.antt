@@ -11,6 +11,7 @@ use Rattle.tspdef.specs.Bounds.{needed, bound}
 use Rattle.tspdef.specs.Trees.{Tree, first, second, IsSound, IsSoundFor}
 use Rattle.treebook.specs.Tables.{Branch, on_edge, on_clique, State, open_node, closed_node, split_node, Node, parent_at, state_at, condition_on, condition_under, own_condition, path_at, split_tree, grown, tree_at, tree_of, is_child, IsTable}
 use Rattle.treebook.specs.Laws.{ClosesFor, SoundTablesClose}
+use Rattle.treebook.specs.Borne.{IsGreatestSoFar, IsBorneAt}
 use Rattle.treebook.proofs.WayLemmas.{from_parents, path_step}
 use Rattle.treebook.proofs.TreeLemmas.{are_behind, tree_step}
 
@@ -63,18 +64,6 @@ pub sound_tables_close : SoundTablesClose
 sound_tables_close i nodes l t h k c m is = closed_sound i (needed l) nodes k c t m is (sound_at i (needed l) nodes t h k m)
 
 -- ---- the greatest bound over the nodes that were looked at
-
--- b is the greatest bound, at most l, that the closed nodes before k bear
-pub record IsGreatestSoFar (i : Instance) (nodes : List Node) (l k b : ℕ) : Type 0 where
-  pub below : b ≤ l
-  pub closes : (j : ℕ) (c : Closing) → j < k → state_at nodes j ≡ closed_node c → needed b <ℤ (bound i (path_at i.fixed nodes j) c)
-  pub greatest : (a : ℕ) → a ≤ l → ClosesFor i a nodes → a ≤ b
-
--- b is the greatest bound, at most l, that a node bears
-pub record IsBorneAt (i : Instance) (nodes : List Node) (l k b : ℕ) : Type 0 where
-  pub below : b ≤ l
-  pub closes : (c : Closing) → state_at nodes k ≡ closed_node c → needed b <ℤ (bound i (path_at i.fixed nodes k) c)
-  pub greatest : (a : ℕ) → a ≤ l → ClosesFor i a nodes → a ≤ b
 
 needed_less : (l m : ℕ) → m ≤ l → needed m ≤ℤ (needed l)
 needed_less l m h = omega (arith, ints)
