@@ -1,5 +1,5 @@
 //! The greatest bound that a tree bears.
-ghost use Rattle.std.specs.Prelude.{◌≡◌, ◌≢◌, ℕ, ◌*◌, ◌^◌, ◌<◌, ◌≤◌, ◌<ℤ◌, ◌≤ℤ◌, pos, neg_ℤ, length};
+ghost use Rattle.std.specs.Prelude.{◌≡◌, ℕ, ◌+◌, ◌-◌, ◌*◌, ◌^◌, ◌<◌, ◌≤◌, ◌<ℤ◌, ◌≤ℤ◌, pos, neg_ℤ, length};
 ghost use Rattle.tspdef.specs.Trees.{IsSoundFor};
 ghost use Rattle.tspdef.specs.Bounds as defs;
 ghost use Rattle.pricer.specs.Sizes.{IsWithin};
