@@ -1,20 +1,21 @@
 -- What values add up to over the sets of a cut, set by set and city by city.
-use Rattle.std.proofs.Common.{◌≡◌, ℕ, ◌+◌, ◌*◌, ◌<◌, ◌≤◌, ◌-◌, Bool, true, false, not, cond, ◌==◌, ◌||◌, List, [], ◌∷◌, sum_by, ℤ, nat_le, int_le, pos, ◌-ℤ◌, T, refl, sym, ap, ◌∙◌, arith}
+use Rattle.std.proofs.Common.{◌≡◌, ℕ, ◌+◌, ◌*◌, ◌<◌, ◌≤◌, ◌-◌, Bool, true, false, not, cond, ◌==◌, ◌||◌, List, [], ◌∷◌, ◌++◌, map, sum_by, ℤ, nat_le, int_le, pos, ◌-ℤ◌, T, refl, sym, ap, subst, ◌∙◌, arith}
 use Rattle.std.specs.Prelude.{◌≤ℤ◌}
-use Rattle.std.proofs.lemmas.Bool.{ne_eqb, eqb-true, leb-true, le-leb}
+use Rattle.std.proofs.lemmas.Bool.{ne_eqb, eqb-true, leb-true, le-leb, false≢true}
 use Rattle.std.proofs.lemmas.Int.{ints}
 use Rattle.std.proofs.lemmas.Float.{T_from_true}
 use Rattle.std.proofs.lemmas.List.Sums.{sum_by-cons}
 use Rattle.std.specs.List.{AllByRecursion}
 use Rattle.tspdef.specs.Sets.{has, RisesFrom, IsSet}
 use Rattle.tspdef.specs.Tours.{crosses}
-use Rattle.tspdef.specs.Cuts.{Cut, subtour, comb, sets_of, right_side, coefficient, IsTooth, IsCut}
+use Rattle.tspdef.specs.Cuts.{Cut, subtour, comb, odd, pair_set, sets_of, right_side, coefficient, IsTooth, IsCut}
 use Rattle.tspdef.specs.Bounds.{scale, violation}
 use Rattle.cyc.specs.declared.frac.Entry.{Entry}
 use Rattle.cyc.specs.Frac.{Values, value_of, AreEntries}
 use Rattle.cyc.proofs.EntrySums.{sums_by_entries}
 use Rattle.cyc.specs.CitySet.{Members}
-use Rattle.cutform.specs.Cut.{cities_of_each}
+use Rattle.cutform.specs.Cut.{cities_of_each, wide_sets, pairs_of}
+use Rattle.cutform.proofs.PartLemmas.{parts_of_sets}
 use Rattle.cutpool.specs.declared.nears.Near.{Near}
 use Rattle.cutpool.specs.Pool.{misses}
 use Rattle.cutpool.specs.Nears.{row_weight, leaving, AreRows, set_weight}
@@ -134,10 +135,15 @@ teeth_are : (n : ℕ) (handle : List ℕ) (ts : List (List ℕ)) → AllByRecurs
 teeth_are n handle [] a = tt
 teeth_are n handle (t ∷ ts) a = (a.0.set, teeth_are n handle ts a.1)
 
+pairs_are : (n : ℕ) (ps : List (ℕ × ℕ)) → AllByRecursion (λ p. (p.0 < p.1) × (p.1 < n)) ps → AllByRecursion (IsSet n) (map pair_set ps)
+pairs_are n [] a = tt
+pairs_are n (p ∷ ps) a = let less = a.0.0 in let below = a.0.1 in (((omega arith, omega arith), ((omega arith, omega arith), tt)), pairs_are n ps a.1)
+
 -- each set of a cut is one
 sets_of_cut : (n : ℕ) (c : Cut) → IsCut n c → AllByRecursion (IsSet n) (sets_of c)
 sets_of_cut n (subtour m s) is = (is.1.set, tt)
 sets_of_cut n (comb m h ts) is = (is.1.proper.set, teeth_are n h ts is.1.each_tooth)
+sets_of_cut n (odd m h ps) is = (is.1.proper.set, pairs_are n ps is.1.below)
 
 -- ---- the test
 
@@ -157,6 +163,7 @@ coefficient_turned (s ∷ ss) u v =
 pub right_positive : (c : Cut) → 1 ≤ right_side c
 right_positive (subtour n s) = omega arith
 right_positive (comb n h ts) = omega arith
+right_positive (odd n h ps) = omega arith
 
 same_tests : (a b : Bool) → (a ≡ true → b ≡ true) → (b ≡ true → a ≡ true) → a ≡ b
 same_tests true true f g = refl
@@ -196,11 +203,50 @@ sum_cities f (t ∷ ts) =
     let b = sum_by-cons f t.cities (cities_of_each ts) in
     omega arith
 
--- the test of what crosses the sets, as the rows say it, decides whether the cut is violated by enough
-pub test_is : (x : Values) (c : Cut) (rows : List (List Near)) (sets : List Members) (room : ℕ) → AreEntries x.n x.entries → AreRows x.entries rows → IsCut x.n c
-    → cities_of_each sets ≡ sets_of c → room ≡ right_side c * 1048576 - 1024
-    → nat_le (sum_by (λ s. set_weight rows s.cities) sets) room ≡ misses x c
-test_is x c rows members room a r is e f =
-    ap (λ w. nat_le w room) (sum_cities (set_weight rows) members ∙ ap (sets_weight rows) e)
-    ∙ ap (nat_le (sets_weight rows (sets_of c))) f
-    ∙ plain_test x c rows a r is
+weight_append : (rows : List (List Near)) (ss ts : List (List ℕ)) → sets_weight rows (ss ++ ts) ≡ sets_weight rows ss + sets_weight rows ts
+weight_append rows [] ts = refl
+weight_append rows (s ∷ ss) ts =
+    let ih = weight_append rows ss ts in
+    let a = sum_by-cons (set_weight rows) s (ss ++ ts) in
+    let b = sum_by-cons (set_weight rows) s ss in
+    omega arith
+
+pair_sum : (rows : List (List Near)) (ps : List (ℕ × ℕ)) → sum_by (λ p. set_weight rows (pair_set p)) ps ≡ sets_weight rows (map pair_set ps)
+pair_sum rows [] = refl
+pair_sum rows (p ∷ ps) =
+    let ih = pair_sum rows ps in
+    let a = sum_by-cons (λ q. set_weight rows (pair_set q)) p ps in
+    let b = sum_by-cons (set_weight rows) (pair_set p) (map pair_set ps) in
+    omega arith
+
+-- what crosses the wide sets and the pairs of a cut is what crosses its sets
+pub cut_weight : (c : Cut) (rows : List (List Near)) (sets : List Members) (pairs : List (ℕ × ℕ)) → cities_of_each sets ≡ wide_sets c → pairs ≡ pairs_of c
+    → sum_by (λ s. set_weight rows s.cities) sets + sum_by (λ p. set_weight rows (pair_set p)) pairs ≡ sets_weight rows (sets_of c)
+cut_weight c rows sets pairs e f =
+    ap (λ k. k + sum_by (λ p. set_weight rows (pair_set p)) pairs) (sum_cities (set_weight rows) sets ∙ ap (sets_weight rows) e)
+    ∙ ap (λ k. sets_weight rows (wide_sets c) + k) (pair_sum rows pairs ∙ ap (λ ps. sets_weight rows (map pair_set ps)) f)
+    ∙ sym (ap (sets_weight rows) (parts_of_sets c) ∙ weight_append rows (wide_sets c) (map pair_set (pairs_of c)))
+
+-- where the sets leave so much room, the test of the pairs decides whether the cut is violated by enough
+pub left_is : (x : Values) (c : Cut) (rows : List (List Near)) (sets : List Members) (pairs : List (ℕ × ℕ)) (room left : ℕ) → AreEntries x.n x.entries → AreRows x.entries rows → IsCut x.n c
+    → cities_of_each sets ≡ wide_sets c → pairs ≡ pairs_of c → room ≡ right_side c * 1048576 - 1024
+    → left + sum_by (λ s. set_weight rows s.cities) sets ≡ room → nat_le (sum_by (λ p. set_weight rows (pair_set p)) pairs) left ≡ misses x c
+left_is x c rows sets pairs room left a r is e f g h =
+    let all = cut_weight c rows sets pairs e f in
+    shifted (sum_by (λ s. set_weight rows s.cities) sets) (sum_by (λ p. set_weight rows (pair_set p)) pairs) left (sets_weight rows (sets_of c)) (right_side c * 1048576 - 1024) all (h ∙ g)
+    ∙ plain_test x c rows a r is where
+      shifted : (s p l w m : ℕ) → s + p ≡ w → l + s ≡ m → nat_le p l ≡ nat_le w m
+      shifted s p l w m e f = same_tests (nat_le p l) (nat_le w m)
+          (λ t. let k = leb-true p l t in le-leb w m (omega arith))
+          (λ t. let k = leb-true w m t in le-leb p l (omega arith))
+
+-- where they leave none, it is not
+pub none_is : (x : Values) (c : Cut) (rows : List (List Near)) (sets : List Members) (pairs : List (ℕ × ℕ)) (room : ℕ) → AreEntries x.n x.entries → AreRows x.entries rows → IsCut x.n c
+    → cities_of_each sets ≡ wide_sets c → pairs ≡ pairs_of c → room ≡ right_side c * 1048576 - 1024
+    → room < sum_by (λ s. set_weight rows s.cities) sets → false ≡ misses x c
+none_is x c rows sets pairs room a r is e f g h =
+    let all = cut_weight c rows sets pairs e f in
+    none (sum_by (λ s. set_weight rows s.cities) sets) (sum_by (λ p. set_weight rows (pair_set p)) pairs) (sets_weight rows (sets_of c)) (right_side c * 1048576 - 1024) all (subst (λ k. k < sum_by (λ s. set_weight rows s.cities) sets) g h)
+    ∙ plain_test x c rows a r is where
+      none : (s p w m : ℕ) → s + p ≡ w → m < s → false ≡ nat_le w m
+      none s p w m e l = same_tests false (nat_le w m) (λ t. absurd (false≢true t)) (λ t. let k = leb-true w m t in absurd (omega arith))

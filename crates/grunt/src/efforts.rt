@@ -33,6 +33,10 @@ fn row_of(cut: &Cut) -> Effort {
             ..none
         },
         Kind::Comb => Effort { combs: 1, ..none },
+        Kind::Odd => Effort {
+            blossoms: 1,
+            ..none
+        },
     }
 }
 

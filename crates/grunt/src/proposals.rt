@@ -46,10 +46,10 @@ pub(crate) fn handles_of(alloc: Global, cuts: &[(Cut, u32)]) -> Result<Vec<CityS
     Ok(handles)
 }
 
-/// The handle of a comb.
+/// The handle of a comb or an odd cut.
 fn handle_of(cut: &Cut) -> Option<&CitySet> {
     match cut.kind() {
-        Kind::Comb => cut.sets().first(),
+        Kind::Comb | Kind::Odd => cut.sets().first(),
         Kind::Subtour => None,
     }
 }

@@ -7,7 +7,10 @@ use Rattle.std.specs.declared.cmp.Ordering.TheVariants.{Less, Equal, Greater}
 use Rattle.std.specs.Ordering.{is_lt, is_eq, ordering_reverse}
 use Rattle.std.proofs.lemmas.Bool.{cases_Bool, or_parts, or_cases, cond-true, cond-false, false≢true}
 use Rattle.std.proofs.lemmas.List.{drop_more, take_more, drop_all, take_all, append_assoc, map-append, length-map}
-use Rattle.tspdef.specs.Cuts.{Cut, cut_cmp, IsCut}
+use Rattle.tspdef.specs.Cuts.{Cut, subtour, comb, odd, pair_set, sets_of, cut_cmp, IsCut}
+use Rattle.tspdef.proofs.SmallCuts.{cuts_are_small}
+use Rattle.cyc.specs.CitySet.{Members}
+use Rattle.cutform.specs.Cut.{cities_of_each}
 use Rattle.tspdef.specs.Closings.{CutsRise, AreRisingCuts}
 use Rattle.cutform.specs.Order.{ordered_cuts, cuts-Equal}
 use Rattle.lpcheck.specs.declared.row.Row.{Row}
@@ -146,3 +149,13 @@ listed_row rows (q ∷ qs) c are h = ⊎_elim
     (λ e. let same : c ≡ q.0 = cuts-Equal c q.0 (eq_is (cut_cmp c q.0) e) in (q.1, subst (λ (d : Cut). slice_get (map shape_of rows) q.1 ≡ Some (cut_shape d)) (sym same) are.0))
     (λ e. listed_row rows qs c are.1 e)
     (or_cases (is_eq (cut_cmp c q.0)) (is_listed qs c) h)
+
+-- ---- how many sets a cut has
+
+sets_few : (n : ℕ) (c : Cut) → n ≤ 2000 → IsCut n c → length (sets_of c) ≤ 4096
+sets_few n (subtour m s) few is = omega arith
+sets_few n (comb m h ts) few is = let right = (cuts_are_small n (comb m h ts) is).right in omega arith
+sets_few n (odd m h ps) few is = let most = is.1.few in let l = length-map ps pair_set in omega arith
+
+pub few_members : (n : ℕ) (c : Cut) (ms : List Members) → n ≤ 2000 → IsCut n c → cities_of_each ms ≡ sets_of c → length ms ≤ 4096
+few_members n c ms few is e = let most = sets_few n c few is in let same = ap length e in let l = length-map ms (λ (s : Members). s.cities) in omega arith

@@ -10,7 +10,6 @@ use cutform::Cut;
 use cyc::{CitySet, CitySetError};
 use simplex::{Row, Sense};
 use std::alloc::{AllocError, Global};
-use tspdef::cuts_are_small;
 
 /// The set of one city.
 fn set_of(alloc: Global, n: u32, city: u32) -> Result<CitySet, AllocError>
@@ -103,25 +102,14 @@ pub fn first_rows(alloc: Global, n: u32, path: &Path) -> Result<Vec<Row>, AllocE
     Ok(rows)
 }
 
-/// Equal sets.
-fn copy_sets(alloc: Global, sets: &[CitySet]) -> Result<Vec<CitySet>, AllocError>
-    ensures { IfOk result (λ v. v.items ≡ sets.now) }
-{
-    let mut copies = Vec::with_capacity(alloc, sets.len())?;
-    for set in sets {
-        copies.push(set.copy(alloc)?)?;
-    }
-    Ok(copies)
-}
-
-/// The row of a cut.
+/// The row of a cut. The pairs of an odd cut are sets of two cities there.
+#[tactic(auto, using(crate::proofs::CutLemmas::few_members))]
 pub fn cut_row(alloc: Global, cut: &Cut) -> Result<Row, AllocError>
     ensures shape { IfOk result (λ row. shape_of row ≡ cut_shape cut.now) }
     ensures small { IfOk result IsSmall }
 {
-    cuts_are_small();
-    let _ = cut.n();
-    let sets = copy_sets(alloc, cut.sets())?;
+    let _few = cut.n();
+    let sets = cut.all_sets(alloc)?;
     Ok(Row {
         sense: Sense::AtLeast,
         rhs: cut.rhs(),
