@@ -34,7 +34,9 @@ sets_again (t ∷ ts) = let e = cities_again t in let ih = sets_again ts in cc
 
 pairs_again : (ps : List (ℕ × ℕ)) → map pair_from_zero (map pair_from_one ps) ≡ ps
 pairs_again [] = refl
-pairs_again (p ∷ ps) = let e = less_one p.0 in let f = less_one p.1 in let ih = pairs_again ps in cc
+pairs_again (p ∷ ps) =
+    ap (λ x. (x, p.1 + 1 - 1) ∷ map pair_from_zero (map pair_from_one ps)) (less_one p.0)
+    ∙ (ap (λ x. (p.0, x) ∷ map pair_from_zero (map pair_from_one ps)) (less_one p.1) ∙ ap (λ qs. p ∷ qs) (pairs_again ps))
 
 cut_again : (n : ℕ) (c : Cut) → IsCut n c → cut_of n (listed c) ≡ c
 cut_again n (subtour m s) k = let e = cities_again s in let f = k.0 in cc

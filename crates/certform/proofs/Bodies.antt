@@ -1,5 +1,5 @@
 -- The parts of a body, put together.
-use Rattle.std.proofs.Common.{◌≡◌, ℕ, List, [], ◌∷◌, ◌++◌, length, map, sym, ◌∙◌, ap, arith, ⊎_elim, length-append}
+use Rattle.std.proofs.Common.{◌≡◌, ℕ, List, [], ◌∷◌, ◌++◌, length, map, sym, ◌∙◌, ap, arith, ⊎_elim, length-append, append_assoc}
 use Rattle.std.specs.Prelude.{reverse}
 use Rattle.std.specs.List.{flat_map}
 use Rattle.std.proofs.lemmas.List.{append-nil, length-map, length-reverse}
@@ -31,6 +31,9 @@ form_length tour form h = ⊎_elim (λ a. turned_length tour form a) (λ b. turn
 abbrev pub head : ℕ → List ℕ → ℕ → ℕ → List Item
 head n form l b = head_items n l (told l b) ++ tour_line (from_one form) ∷ []
 
+put_together : (h : List Item) (t c : Item) (a : List Item) → ((h ++ t ∷ []) ++ c ∷ []) ++ a ≡ h ++ (t ∷ c ∷ a)
+put_together h t c a = ap (λ r. r ++ a) (append_assoc h (t ∷ []) (c ∷ [])) ∙ append_assoc h (t ∷ c ∷ []) a
+
 parts : (n l b : ℕ) (form : List ℕ) (t : Tree) → said (head n form l b) ++ said (cuts_line (length (used_cuts t)) ∷ []) ++ said (flat_map cut_items (used_cuts t)) ++ said (tree_items (written_tree (used_cuts t) t) ++ [])
     ≡ text (written n form l b t)
 parts n l b form t =
@@ -46,6 +49,7 @@ parts n l b form t =
     ∙ sym (said-append ((h ++ c) ++ a) ts)
     ∙ ap (λ r. said (((h ++ r) ++ a) ++ ts)) k
     ∙ ap (λ r. said (((h ++ (cuts_line (length (map listed cs)) ∷ [])) ++ r) ++ ts)) (sym (flat_map-map listed_items listed cs))
+    ∙ ap (λ r. said (r ++ ts)) (put_together (head_items n l (told l b)) (tour_line (from_one form)) (cuts_line (length (map listed cs))) (flat_map listed_items (map listed cs)))
 
 pub body_is : (n l b count : ℕ) (form : List ℕ) (keys : List Cut) (nodes : List Node) (order : List ℕ) → IsPreorder nodes order (tree_of nodes ∷ []) → keys ≡ node_cuts nodes order → count ≡ length keys
     → said (head n form l b) ++ said (cuts_line count ∷ []) ++ said (flat_map cut_items keys) ++ said (node_items keys nodes order) ≡ text (written n form l b (tree_of nodes))

@@ -96,16 +96,14 @@ module _ (i : Instance) (tour : List ℕ) (l b : ℕ) (t : Tree) (inst : IsInsta
       let w = is_tour.is_tour.all in
       let none = none_deep in
       let short = subst (λ k. k ≤ 2 ^ 42) (sym long) (tour_short i tour inst (omega arith)) in
-      all_join i.n (head_items i.n l (told l b)) (tour_line (from_one tour) ∷ cuts_line (length (map listed cs)) ∷ flat_map listed_items (map listed cs) ++ tree_items (written_tree cs t))
-          (head_fits i.n l b inst.few short below)
+      let body = tour_line (from_one tour) ∷ cuts_line (length (map listed cs)) ∷ flat_map listed_items (map listed cs) in
+      all_join i.n (head_items i.n l (told l b) ++ body) (tree_items (written_tree cs t))
+          (all_join i.n (head_items i.n l (told l b)) body (head_fits i.n l b inst.few short below)
           (
             fits_tour i.n (from_one tour) inst.few (m ∙ w) (small_tour i.n tour inst.few is_tour.is_tour.below),
-            (
-              fits_count i.n (length (map listed cs)) (omega arith),
-              all_join i.n (flat_map listed_items (map listed cs)) (tree_items (written_tree cs t)) (cuts_fit i.n cs inst.few are_cuts)
-                  (tree_fits i.n (root i) cs t inst.few (omega arith) (omega arith) has_all fitting),
-            ),
-          )
+            (fits_count i.n (length (map listed cs)) (omega arith), cuts_fit i.n cs inst.few are_cuts),
+          ))
+          (tree_fits i.n (root i) cs t inst.few (omega arith) (omega arith) has_all fitting)
 
   has_form : HasForm i.n p
   has_form = record {
@@ -145,9 +143,10 @@ module _ (i : Instance) (tour : List ℕ) (l b : ℕ) (t : Tree) (inst : IsInsta
       let c = cuts_few in
       let x = cuts_length i.n cs inst.few are_cuts in
       let y = tree_length i.n (root i) cs t inst.few fitting in
-      let z = length-append (flat_map listed_items (map listed cs)) (tree_items (written_tree cs t)) in
       let h = head_length i.n l b in
-      let a = length-append (head_items i.n l (told l b)) (tour_line (from_one tour) ∷ cuts_line (length (map listed cs)) ∷ flat_map listed_items (map listed cs) ++ tree_items (written_tree cs t)) in
+      let body = tour_line (from_one tour) ∷ cuts_line (length (map listed cs)) ∷ flat_map listed_items (map listed cs) in
+      let a = length-append (head_items i.n l (told l b)) body in
+      let z = length-append (head_items i.n l (told l b) ++ body) (tree_items (written_tree cs t)) in
       let w = text_length i.n (items p) all_fit in omega arith
 
   faithful : IsFaithful i l b t p
