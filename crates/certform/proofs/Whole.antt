@@ -98,12 +98,11 @@ module _ (i : Instance) (tour : List ℕ) (l b : ℕ) (t : Tree) (inst : IsInsta
       let short = subst (λ k. k ≤ 2 ^ 42) (sym long) (tour_short i tour inst (omega arith)) in
       let body = tour_line (from_one tour) ∷ cuts_line (length (map listed cs)) ∷ flat_map listed_items (map listed cs) in
       all_join i.n (head_items i.n l (told l b) ++ body) (tree_items (written_tree cs t))
-          (all_join i.n (head_items i.n l (told l b)) body (head_fits i.n l b inst.few short below)
-          (
-            fits_tour i.n (from_one tour) inst.few (m ∙ w) (small_tour i.n tour inst.few is_tour.is_tour.below),
-            (fits_count i.n (length (map listed cs)) (omega arith), cuts_fit i.n cs inst.few are_cuts),
-          ))
-          (tree_fits i.n (root i) cs t inst.few (omega arith) (omega arith) has_all fitting)
+      (all_join i.n (head_items i.n l (told l b)) body (head_fits i.n l b inst.few short below) (
+        fits_tour i.n (from_one tour) inst.few (m ∙ w) (small_tour i.n tour inst.few is_tour.is_tour.below),
+        (fits_count i.n (length (map listed cs)) (omega arith), cuts_fit i.n cs inst.few are_cuts),
+      ))
+      (tree_fits i.n (root i) cs t inst.few (omega arith) (omega arith) has_all fitting)
 
   has_form : HasForm i.n p
   has_form = record {

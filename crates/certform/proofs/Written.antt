@@ -52,7 +52,7 @@ is_before_one : (p q : ℕ × ℕ) → IsPairBefore p q → is_before (pair_from
 is_before_one p q h = ⊎_elim
     (λ a. or_left (nat_lt (p.0 + 1) (q.0 + 1)) (((p.0 + 1) == (q.0 + 1)) && nat_lt (p.1 + 1) (q.1 + 1)) (lt-ltb (p.0 + 1) (q.0 + 1) (omega arith)))
     (λ b. let e = b.0 in let l = b.1 in or_right (nat_lt (p.0 + 1) (q.0 + 1)) (((p.0 + 1) == (q.0 + 1)) && nat_lt (p.1 + 1) (q.1 + 1))
-        (and_from ((p.0 + 1) == (q.0 + 1)) (nat_lt (p.1 + 1) (q.1 + 1)) (eq-eqb (p.0 + 1) (q.0 + 1) (omega arith)) (lt-ltb (p.1 + 1) (q.1 + 1) (omega arith))))
+    (and_from ((p.0 + 1) == (q.0 + 1)) (nat_lt (p.1 + 1) (q.1 + 1)) (eq-eqb (p.0 + 1) (q.0 + 1) (omega arith)) (lt-ltb (p.1 + 1) (q.1 + 1) (omega arith))))
     h
 
 rise_from_one : (p : ℕ × ℕ) (ps : List (ℕ × ℕ)) → PairsRise p ps → pairs_rise_from (pair_from_one p) (map pair_from_one ps) ≡ true

@@ -108,11 +108,22 @@ fn close(instance: &Instance, tree: &mut Tree, node: u32, closing: Closing) -> R
     Ok(())
 }
 
-fn text(alloc: Global, instance: &Instance, tour: &Tour, tree: &Tree) -> Result<Vec<u8>, Fail> {
+/// The text with a bound, or with none below the length.
+fn text_within(
+    alloc: Global,
+    instance: &Instance,
+    tour: &Tour,
+    tree: &Tree,
+    bound: u64,
+) -> Result<Vec<u8>, Fail> {
     if tour.n() != instance.n() || tree.n() != instance.n() || tree.nodes() > 1_048_576 {
         return Err("of other cities".into());
     }
-    Ok(body(alloc, instance, tour, tree)?)
+    Ok(body(alloc, instance, tour, tree, bound)?)
+}
+
+fn text(alloc: Global, instance: &Instance, tour: &Tour, tree: &Tree) -> Result<Vec<u8>, Fail> {
+    text_within(alloc, instance, tour, tree, 1 << 42)
 }
 
 const SQUARE: &[u8] = b"TSPCERT 1\nN 4\nLENGTH 40\nTOUR 1 2 3 4\nCUTS 0\nO\n";
@@ -125,6 +136,52 @@ fn the_body_of_a_fresh_tree(rt: HostRuntime) -> Result<(), Fail> {
     let bytes = text(alloc, &instance, &tour(alloc, &[2, 1, 0, 3])?, &tree)?;
     assert_eq!(rt; bytes.len(), 46);
     assert!(rt; bytes.as_slice() == SQUARE);
+    Ok(())
+}
+
+#[test]
+fn a_bound_below_the_length_is_told(rt: HostRuntime) -> Result<(), Fail> {
+    let alloc = rt.alloc();
+    let instance = square(alloc)?;
+    let mut tree = Tree::new(alloc, 4)?;
+    let city = Vec::from_slice(alloc, &[0, 0, 0, 0])?;
+    let nothing = Closing::new(city, Vec::new(alloc), Vec::new(alloc));
+    close(&instance, &mut tree, 0, nothing)?;
+    let around = tour(alloc, &[0, 1, 2, 3])?;
+    let bytes = text_within(alloc, &instance, &around, &tree, 0)?;
+    assert!(rt;
+        bytes.as_slice() == b"TSPCERT 2\nN 4\nLENGTH 40\nBOUND 0\nTOUR 1 2 3 4\nCUTS 0\nL 0 0 0\n"
+    );
+    let bytes = text_within(alloc, &instance, &around, &tree, 39)?;
+    assert!(rt;
+        bytes.as_slice() == b"TSPCERT 2\nN 4\nLENGTH 40\nBOUND 39\nTOUR 1 2 3 4\nCUTS 0\nL 0 0 0\n"
+    );
+    let bytes = text_within(alloc, &instance, &around, &tree, 40)?;
+    assert!(rt; bytes.as_slice() == b"TSPCERT 1\nN 4\nLENGTH 40\nTOUR 1 2 3 4\nCUTS 0\nL 0 0 0\n");
+    Ok(())
+}
+
+#[test]
+fn an_odd_cut_is_listed_by_its_handle_and_pairs(rt: HostRuntime) -> Result<(), Fail> {
+    let alloc = rt.alloc();
+    let instance = line(alloc, 6)?;
+    let mut tree = Tree::new(alloc, 6)?;
+    let handle = set(alloc, 6, &[0, 1, 2])?;
+    let pairs = Vec::from_slice(alloc, &[(0, 3), (1, 4), (2, 5)])?;
+    let mut cuts = Vec::new(alloc);
+    cuts.push((Cut::odd(alloc, handle, pairs)?, 7))?;
+    let city = Vec::from_slice(alloc, &[0, 0, 0, 0, 0, 0])?;
+    close(
+        &instance,
+        &mut tree,
+        0,
+        Closing::new(city, cuts, Vec::new(alloc)),
+    )?;
+    let bytes = text(alloc, &instance, &tour(alloc, &[0, 1, 2, 3, 4, 5])?, &tree)?;
+    assert!(rt;
+        bytes.as_slice()
+            == b"TSPCERT 1\nN 6\nLENGTH 10\nTOUR 1 2 3 4 5 6\nCUTS 1\nB 3\nH 3 1 2 3\nF 1 4\nF 2 5\nF 3 6\nL 0 1 0\nY 1 7\n"
+    );
     Ok(())
 }
 
@@ -219,13 +276,13 @@ fn a_failing_write_leaves_a_front(rt: HostRuntime) -> Result<(), Fail> {
     }
     let mut good = desk(alloc, &[])?;
     assert_eq!(rt;
-        write(alloc, &mut good, &instance, &tour, &tree).err(),
+        write(alloc, &mut good, &instance, &tour, &tree, 40).err(),
         None
     );
     assert!(rt; good.proof() == SQUARE);
     let mut bad = desk(alloc, &[3])?;
     assert_eq!(rt;
-        write(alloc, &mut bad, &instance, &tour, &tree).err(),
+        write(alloc, &mut bad, &instance, &tour, &tree, 40).err(),
         Some(WriteError::Failed)
     );
     assert!(rt; bad.proof() == &SQUARE[..32]);

@@ -38,7 +38,11 @@ pub fn comb(alloc: Global, handle: CitySet, teeth: Vec<CitySet>) -> Result<Optio
 }
 
 /// The odd cut of a handle and pairs, if it is a cut.
-pub fn odd(alloc: Global, handle: CitySet, pairs: Vec<(u32, u32)>) -> Result<Option<Cut>, AllocError>
+pub fn odd(
+    alloc: Global,
+    handle: CitySet,
+    pairs: Vec<(u32, u32)>,
+) -> Result<Option<Cut>, AllocError>
     ensures found { IfOk result (λ o. is_some o
         ≡ is_cut handle.n (cut_of handle.n (odd_cut (to_one handle.cities) (map pair_to_one pairs.items)))) }
     ensures value { IfOk result (λ o. IfSome o (λ c. listed c ≡ odd_cut (to_one handle.cities) (map pair_to_one pairs.items))) }

@@ -28,14 +28,14 @@ child_sound i number path (closed_node c) below k is h = absurd (false≢true is
 child_sound i number path (split_node b child) below k is h =
     let parts = split_parts i number path b (below child) (below (child + 1)) h in
     ⊎_elim
-        (λ e. let c : condition_on b (cond (k == child) first second) ≡ condition_on b first = ap (condition_on b) (cond-true (k == child) first second e) in
-        subst (λ (q : Condition). IsSound i number (path ++ q ∷ []) (below k)) (sym c) (subst (λ (j : ℕ). IsSound i number (path ++ condition_on b first ∷ []) (below j)) (sym (eqb-true k child e)) parts.0))
-        (λ ne. ⊎_elim
-            (λ e. absurd (false≢true (sym ne ∙ e)))
-            (λ e. let c : condition_on b (cond (k == child) first second) ≡ condition_on b second = ap (condition_on b) (cond-false (k == child) first second ne) in
-            subst (λ (q : Condition). IsSound i number (path ++ q ∷ []) (below k)) (sym c) (subst (λ (j : ℕ). IsSound i number (path ++ condition_on b second ∷ []) (below j)) (sym (eqb-true k (child + 1) e)) parts.1))
-            (or_cases (k == child) (k == child + 1) is))
-        (cases_Bool (k == child))
+    (λ e. let c : condition_on b (cond (k == child) first second) ≡ condition_on b first = ap (condition_on b) (cond-true (k == child) first second e) in
+    subst (λ (q : Condition). IsSound i number (path ++ q ∷ []) (below k)) (sym c) (subst (λ (j : ℕ). IsSound i number (path ++ condition_on b first ∷ []) (below j)) (sym (eqb-true k child e)) parts.0))
+    (λ ne. ⊎_elim
+    (λ e. absurd (false≢true (sym ne ∙ e)))
+    (λ e. let c : condition_on b (cond (k == child) first second) ≡ condition_on b second = ap (condition_on b) (cond-false (k == child) first second ne) in
+    subst (λ (q : Condition). IsSound i number (path ++ q ∷ []) (below k)) (sym c) (subst (λ (j : ℕ). IsSound i number (path ++ condition_on b second ∷ []) (below j)) (sym (eqb-true k (child + 1) e)) parts.1))
+    (or_cases (k == child) (k == child + 1) is))
+    (cases_Bool (k == child))
 
 -- soundness at a node
 abbrev SoundAt : Instance → ℤ → List Node → ℕ → Type 0
@@ -46,13 +46,13 @@ sound_at : (i : Instance) (number : ℤ) (nodes : List Node) → IsTable i.n i.f
 sound_at i number nodes t h k m =
     let behind = are_behind i.n i.fixed nodes t in
     from_parents (SoundAt i number nodes) nodes behind
-        (subst (λ (p : List Condition). IsSound i number p (tree_of nodes)) (sym (append-nil (root i))) h)
-        (λ j some within above.
-        let less = behind j some within in
-        let grows = subst (IsSound i number (path_at i.fixed nodes (parent_at nodes j))) (tree_step i.n i.fixed nodes (parent_at nodes j) t (omega arith)) above in
-        subst (λ (p : List Condition). IsSound i number p (tree_at nodes j)) (sym (path_step i.fixed nodes j behind some within))
-            (child_sound i number (path_at i.fixed nodes (parent_at nodes j)) (state_at nodes (parent_at nodes j)) (tree_at nodes) j (t.parents j some within).child grows))
-        (length nodes) k (omega arith) m
+    (subst (λ (p : List Condition). IsSound i number p (tree_of nodes)) (sym (append-nil (root i))) h)
+    (λ j some within above.
+    let less = behind j some within in
+    let grows = subst (IsSound i number (path_at i.fixed nodes (parent_at nodes j))) (tree_step i.n i.fixed nodes (parent_at nodes j) t (omega arith)) above in
+    subst (λ (p : List Condition). IsSound i number p (tree_at nodes j)) (sym (path_step i.fixed nodes j behind some within))
+    (child_sound i number (path_at i.fixed nodes (parent_at nodes j)) (state_at nodes (parent_at nodes j)) (tree_at nodes) j (t.parents j some within).child grows))
+    (length nodes) k (omega arith) m
 
 closed_sound : (i : Instance) (number : ℤ) (nodes : List Node) (k : ℕ) (c : Closing) → IsTable i.n i.fixed nodes → k < length nodes → state_at nodes k ≡ closed_node c
     → SoundAt i number nodes k → number <ℤ (bound i (path_at i.fixed nodes k) c)

@@ -82,3 +82,17 @@ fn paths_begin_with_the_fixed_pairs(rt: HostRuntime) -> Result<(), Fail> {
     assert!(rt; tree.decided_at(1, 3, 0));
     Ok(())
 }
+
+/// No closed node sets a limit.
+#[test]
+fn an_open_tree_bears_each_bound(rt: HostRuntime) -> Result<(), Fail> {
+    let alloc = rt.alloc();
+    let instance = from_points(
+        alloc,
+        Kind::Euc,
+        &[Point::new(0, 0), Point::new(3, 0), Point::new(0, 4)],
+    )?;
+    let tree = Tree::new(alloc, 3)?;
+    assert_eq!(rt; tree.greatest_bound(&instance, 12), 12);
+    Ok(())
+}

@@ -11,7 +11,11 @@ pub(crate) fn printed(alloc: Global, proof: &str) -> Result<String, AllocError> 
 }
 
 /// What it prints for an instance and a proof.
-pub(crate) fn printed_for(alloc: Global, instance: &str, proof: &str) -> Result<String, AllocError> {
+pub(crate) fn printed_for(
+    alloc: Global,
+    instance: &str,
+    proof: &str,
+) -> Result<String, AllocError> {
     let ended = verified(alloc, instance, proof)?;
     let mut text = format!(in alloc; "")?;
     for byte in ended.desk.text() {

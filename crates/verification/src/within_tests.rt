@@ -8,8 +8,7 @@ use std::alloc::{AllocError, Global};
 use std::test::Fail;
 
 /// No tour of the square is shorter than 0.
-const WITHIN: &str =
-    "TSPCERT 2\nN 4\nLENGTH 40\nBOUND 0\nTOUR 1 2 3 4\nCUTS 0\nL 0 0 0\n";
+const WITHIN: &str = "TSPCERT 2\nN 4\nLENGTH 40\nBOUND 0\nTOUR 1 2 3 4\nCUTS 0\nL 0 0 0\n";
 
 /// The four duals of the square bear 39.0625 lengths, so a bound of 40 and each lesser one.
 const SQUARE_WITHIN: &str =
@@ -78,7 +77,11 @@ fn lines_of_the_second_version(rt: HostRuntime) -> Result<(), Fail> {
         (7, "O", "REFUSED 8 7\n"),
         (7, "L 1 0 0", "REFUSED 1 8\n"),
     ] {
-        assert_eq!(rt; printed_with(alloc, SQUARE, WITHIN, number, line)?.as_str(), want, "{line}");
+        assert_eq!(rt;
+            printed_with(alloc, SQUARE, WITHIN, number, line)?.as_str(),
+            want,
+            "{line}"
+        );
     }
     Ok(())
 }
@@ -94,7 +97,11 @@ fn a_leaf_bears_so_much(rt: HostRuntime) -> Result<(), Fail> {
         (8, "P 1 4562944", "REFUSED 7 7\n"),
         (8, "P 1 4562945", "WITHIN 40 39\n"),
     ] {
-        assert_eq!(rt; printed_with(alloc, SQUARE, SQUARE_WITHIN, number, line)?.as_str(), want, "{line}");
+        assert_eq!(rt;
+            printed_with(alloc, SQUARE, SQUARE_WITHIN, number, line)?.as_str(),
+            want,
+            "{line}"
+        );
     }
     Ok(())
 }
@@ -102,7 +109,10 @@ fn a_leaf_bears_so_much(rt: HostRuntime) -> Result<(), Fail> {
 #[test]
 fn an_odd_cut_takes_the_place_of_a_comb(rt: HostRuntime) -> Result<(), Fail> {
     let alloc = rt.alloc();
-    assert_eq!(rt; printed_for(alloc, PRISM, ODD_PROOF)?.as_str(), "VERIFIED 4\n");
+    assert_eq!(rt;
+        printed_for(alloc, PRISM, ODD_PROOF)?.as_str(),
+        "VERIFIED 4\n"
+    );
     for (number, line, want) in [
         (6, "B 2", "REFUSED 5 6\n"),
         (6, "B 4", "REFUSED 1 11\n"),
@@ -119,7 +129,11 @@ fn an_odd_cut_takes_the_place_of_a_comb(rt: HostRuntime) -> Result<(), Fail> {
         (8, "T 2 1 4", "REFUSED 1 8\n"),
         (7, "F 1 4", "REFUSED 1 7\n"),
     ] {
-        assert_eq!(rt; printed_with(alloc, PRISM, ODD_PROOF, number, line)?.as_str(), want, "{line}");
+        assert_eq!(rt;
+            printed_with(alloc, PRISM, ODD_PROOF, number, line)?.as_str(),
+            want,
+            "{line}"
+        );
     }
     Ok(())
 }
@@ -142,7 +156,10 @@ fn odd_cuts(rt: HostRuntime) -> Result<(), Fail> {
         ("CUTS 1\nB 1\nH 4 1 2 3 4\nF 1 3\n", "5 6"),
         ("CUTS 1\nB 2\nH 2 1 2\nF 1 3\nF 2 4\n", "5 6"),
         ("CUTS 1\nB 3\nH 2 1 2\nF 1 3\nF 1 3\nF 2 4\n", "1 9"),
-        ("CUTS 1\nB 3\nH 2 1 2\nF 1 3\nF 1 4\nF 2 3\nL 0 0 0\n", "7 11"),
+        (
+            "CUTS 1\nB 3\nH 2 1 2\nF 1 3\nF 1 4\nF 2 3\nL 0 0 0\n",
+            "7 11",
+        ),
     ] {
         let proof = format!(in alloc; "TSPCERT 1\nN 4\nLENGTH 40\nTOUR 1 2 3 4\n{rest}")?;
         let want = format!(in alloc; "REFUSED {want}\n")?;
