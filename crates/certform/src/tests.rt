@@ -157,7 +157,7 @@ fn a_bound_below_the_length_is_told(rt: HostRuntime) -> Result<(), Fail> {
         bytes.as_slice() == b"TSPCERT 2\nN 4\nLENGTH 40\nBOUND 39\nTOUR 1 2 3 4\nCUTS 0\nL 0 0 0\n"
     );
     let bytes = text_within(alloc, &instance, &around, &tree, 40)?;
-    assert!(rt; bytes.as_slice() == b"TSPCERT 1\nN 4\nLENGTH 40\nTOUR 1 2 3 4\nCUTS 0\nL 0 0 0\n");
+    assert!(rt; bytes.as_slice() == b"TSPCERT 1\nN 4\nLENGTH 40\nTOUR 1 2 3 4\nCUTS 0\nL 0 0 0\n".as_slice());
     Ok(())
 }
 
