@@ -150,11 +150,11 @@ fn a_bound_below_the_length_is_told(rt: HostRuntime) -> Result<(), Fail> {
     let around = tour(alloc, &[0, 1, 2, 3])?;
     let bytes = text_within(alloc, &instance, &around, &tree, 0)?;
     assert!(rt;
-        bytes.as_slice() == b"TSPCERT 2\nN 4\nLENGTH 40\nBOUND 0\nTOUR 1 2 3 4\nCUTS 0\nL 0 0 0\n"
+        bytes.as_slice() == b"TSPCERT 2\nN 4\nLENGTH 40\nBOUND 0\nTOUR 1 2 3 4\nCUTS 0\nL 0 0 0\n".as_slice()
     );
     let bytes = text_within(alloc, &instance, &around, &tree, 39)?;
     assert!(rt;
-        bytes.as_slice() == b"TSPCERT 2\nN 4\nLENGTH 40\nBOUND 39\nTOUR 1 2 3 4\nCUTS 0\nL 0 0 0\n"
+        bytes.as_slice() == b"TSPCERT 2\nN 4\nLENGTH 40\nBOUND 39\nTOUR 1 2 3 4\nCUTS 0\nL 0 0 0\n".as_slice()
     );
     let bytes = text_within(alloc, &instance, &around, &tree, 40)?;
     assert!(rt; bytes.as_slice() == b"TSPCERT 1\nN 4\nLENGTH 40\nTOUR 1 2 3 4\nCUTS 0\nL 0 0 0\n".as_slice());
@@ -180,7 +180,7 @@ fn an_odd_cut_is_listed_by_its_handle_and_pairs(rt: HostRuntime) -> Result<(), F
     let bytes = text(alloc, &instance, &tour(alloc, &[0, 1, 2, 3, 4, 5])?, &tree)?;
     assert!(rt;
         bytes.as_slice()
-            == b"TSPCERT 1\nN 6\nLENGTH 10\nTOUR 1 2 3 4 5 6\nCUTS 1\nB 3\nH 3 1 2 3\nF 1 4\nF 2 5\nF 3 6\nL 0 1 0\nY 1 7\n"
+            == b"TSPCERT 1\nN 6\nLENGTH 10\nTOUR 1 2 3 4 5 6\nCUTS 1\nB 3\nH 3 1 2 3\nF 1 4\nF 2 5\nF 3 6\nL 0 1 0\nY 1 7\n".as_slice()
     );
     Ok(())
 }
