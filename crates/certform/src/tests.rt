@@ -150,14 +150,18 @@ fn a_bound_below_the_length_is_told(rt: HostRuntime) -> Result<(), Fail> {
     let around = tour(alloc, &[0, 1, 2, 3])?;
     let bytes = text_within(alloc, &instance, &around, &tree, 0)?;
     assert!(rt;
-        bytes.as_slice() == b"TSPCERT 2\nN 4\nLENGTH 40\nBOUND 0\nTOUR 1 2 3 4\nCUTS 0\nL 0 0 0\n".as_slice()
+        bytes.as_slice()
+            == b"TSPCERT 2\nN 4\nLENGTH 40\nBOUND 0\nTOUR 1 2 3 4\nCUTS 0\nL 0 0 0\n".as_slice()
     );
     let bytes = text_within(alloc, &instance, &around, &tree, 39)?;
     assert!(rt;
-        bytes.as_slice() == b"TSPCERT 2\nN 4\nLENGTH 40\nBOUND 39\nTOUR 1 2 3 4\nCUTS 0\nL 0 0 0\n".as_slice()
+        bytes.as_slice()
+            == b"TSPCERT 2\nN 4\nLENGTH 40\nBOUND 39\nTOUR 1 2 3 4\nCUTS 0\nL 0 0 0\n".as_slice()
     );
     let bytes = text_within(alloc, &instance, &around, &tree, 40)?;
-    assert!(rt; bytes.as_slice() == b"TSPCERT 1\nN 4\nLENGTH 40\nTOUR 1 2 3 4\nCUTS 0\nL 0 0 0\n".as_slice());
+    assert!(rt;
+        bytes.as_slice() == b"TSPCERT 1\nN 4\nLENGTH 40\nTOUR 1 2 3 4\nCUTS 0\nL 0 0 0\n".as_slice()
+    );
     Ok(())
 }
 
