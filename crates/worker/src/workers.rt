@@ -24,7 +24,7 @@ pub trait Worker {
     ghost splits_stay: { StayForMore splits };
 
     /// Works on the node with this path, where the best tour so far has this length and it is enough to show that no tour is
-    /// shorter than the best by more than the gap. Cuts may be shared with the box and fetched from it.
+    /// shorter than the best by more than the gap. Cuts may be put into the box `shared` and fetched from it.
     /// The same seed gives the same work where the box gives the same cuts.
     ///
     /// The path begins with the fixed pairs of the instance. It has at most 2^21 conditions on sets. On pairs it has at most one for each of the n (n - 1) / 2.
@@ -33,7 +33,7 @@ pub trait Worker {
         alloc: Global,
         instance: &Instance,
         near: &Neigh,
-        cuts: &mut B,
+        shared: &mut B,
         path: &Path,
         best: u64,
         seed: u64,
