@@ -135,6 +135,20 @@ fn subtour(alloc: Global, n: u32, cities: &[u32]) -> Result<Cut, Fail>
     )?)
 }
 
+/// The comb that the values of a prism violate.
+fn prism_comb(alloc: Global) -> Result<Cut, Fail> {
+    let mut teeth = Vec::new(alloc);
+    for u in 0..3u32 {
+        teeth.push(CitySet::new(
+            alloc,
+            6,
+            Vec::from_slice(alloc, &[u, u + 3])?,
+        )?)?;
+    }
+    let handle = CitySet::new(alloc, 6, Vec::from_slice(alloc, &[0, 1, 2])?)?;
+    Ok(Cut::comb(alloc, handle, teeth)?)
+}
+
 /// Whether there is a comb among some cuts.
 fn has_comb(cuts: &[Cut]) -> bool {
     cuts.iter().any(|cut| cut.kind() == CutKind::Comb)
@@ -289,7 +303,7 @@ fn a_box_that_lies_costs_time_alone(rt: HostRuntime) -> Result<(), Fail> {
     let mut liar = Liar {
         foreign: subtour(alloc, 7, &[0, 1])?,
         met: subtour(alloc, 6, &[0])?,
-        same: subtour(alloc, 6, &[0, 1, 2])?,
+        same: prism_comb(alloc)?,
     };
     let work = boxed_work(&rt, alloc, &LpWorker, &mut liar, &instance, 4)?;
     assert!(rt; closes_above(&rt, alloc, &instance, &work, 3 << 20)?);
