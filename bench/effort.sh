@@ -9,10 +9,8 @@ top=$(cd "$(dirname "$0")/.." && pwd)
 shared=${1:-$top/../shared}
 most=${2:-200}
 budget=${3:-65536}
-case ${BOX:-CutPool} in
-    NoCuts) box='NoCuts' ;;
-    *) box='CutPool::new(rt.alloc(), instance.n())' ;;
-esac
+box=${BOX:-CutPool}
+[ "$box" = NoCuts ] && shared_box='NoCuts' || shared_box='CutPool::new(rt.alloc(), instance.n())'
 . "$top/bench/workspace.sh"
 workspace effort 'ports tspdef distx cyc tspinst neigh linkern cutform cutpool branchx pricer lpcheck simplex treebook pathtour opening worker grunt treesearch anyhow'
 cat >"$work/crates/effort/src/main.rt" <<'RT'
@@ -21,7 +19,7 @@ cat >"$work/crates/effort/src/main.rt" <<'RT'
 #![tactic(auto)]
 
 use anyhow::{Result, anyhow, bail};
-use cutpool::{CutPool, NoCuts};
+use cutpool::KIND;
 use grunt::LpWorker;
 use opening::find_opening;
 use ports::{Desk, FileDesk, Inlet};
@@ -54,7 +52,7 @@ fn main(rt: HostRuntime) -> Result<()> {
     };
     let start = rt.thread_cpu_time()?;
     let opening = find_opening(rt.alloc(), &instance, 1)?;
-    let mut shared = BOX;
+    let mut shared = MADE;
     let found = search(rt.alloc(), &instance, opening, &LpWorker, &mut shared, budget, 1)?;
     let end = rt.thread_cpu_time()?;
     let took = end.saturating_sub(start).as_millis();
@@ -67,8 +65,7 @@ fn main(rt: HostRuntime) -> Result<()> {
     Ok(())
 }
 RT
-sed -i "s/= BOX;/= $box;/" "$work/crates/effort/src/main.rt"
-case $box in NoCuts) sed -i 's/{CutPool, NoCuts}/NoCuts/' "$work/crates/effort/src/main.rt" ;; *) sed -i 's/{CutPool, NoCuts}/CutPool/' "$work/crates/effort/src/main.rt" ;; esac
+sed -i "s/KIND/$box/; s/MADE/$shared_box/" "$work/crates/effort/src/main.rt"
 (cd "$work/crates/effort" && rt run -- "$shared/instances/none" 1 >"$work/log" 2>&1) || true
 effort=$work/crates/effort/out/effort
 [ -x "$effort" ] || { tail -30 "$work/log" >&2; exit 1; }
