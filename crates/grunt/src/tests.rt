@@ -139,11 +139,7 @@ fn subtour(alloc: Global, n: u32, cities: &[u32]) -> Result<Cut, Fail>
 fn prism_comb(alloc: Global) -> Result<Cut, Fail> {
     let mut teeth = Vec::new(alloc);
     for u in 0..3u32 {
-        teeth.push(CitySet::new(
-            alloc,
-            6,
-            Vec::from_slice(alloc, &[u, u + 3])?,
-        )?)?;
+        teeth.push(CitySet::new(alloc, 6, Vec::from_slice(alloc, &[u, u + 3])?)?)?;
     }
     let handle = CitySet::new(alloc, 6, Vec::from_slice(alloc, &[0, 1, 2])?)?;
     Ok(Cut::comb(alloc, handle, teeth)?)
