@@ -33,6 +33,21 @@ work-requires-clause-few_cliques g c =
 pub work-requires-clause-short : goal.work-requires-clause-short
 work-requires-clause-short g c = found_is_short c.args.instance.now c.args.found.now c.n.ensures.instance c.requires.found
 
+pub take-requires-clause-report : goal.take-requires-clause-report
+take-requires-clause-report g c =
+    let i = c.args.instance.now in
+    let best = c.args.found.now.length in
+    let path = c.in_ok-path.path.conditions in
+    let work = c.in_ok-work.work in
+    let report = c.parts-tour.result.1 in
+    let length = c.offer_found.new.found.length in
+    let is = no_gap i path (best_after i best work.tour) work.report (c.in_ok-work.ensures.work c.requires.sure).report in
+    let told = subst (λ (r : Report). IsReport i path (best_after i best work.tour) r) (sym c.parts-tour.ensures.report) is in
+    let offered = subst (λ o. IsReport i path (best_after i best o) report) (sym c.parts-tour.ensures.tour) told in
+    let least = subst (λ (m : ℕ). IsReport i path m report) (sym c.offer_found.ensures.least) offered in
+    subst (λ (t : Table). IsReport i (path_at t.fixed t.nodes c.args.node) length report) (sym c.offer_found.ensures.tree)
+    (subst (λ (p : Conditions). IsReport i p.conditions length report) c.in_ok-path.ensures least)
+
 pub returns-clause-splits : goal.returns-clause-splits
 returns-clause-splits g c = λ all.
     let i = c.args.instance.now in
