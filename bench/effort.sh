@@ -3,20 +3,23 @@
 # cuts that were added by their kinds, and columns; and times it. The counts are those that a search returns (`worker::Effort`).
 # Outside the gate. Prints a table; figures go into docs/PERFORMANCE.md.
 #
-#   bench/effort.sh [SHARED] [MOST] [BUDGET]     (default ../shared 200 65536)
+#   bench/effort.sh [SHARED] [MOST] [BUDGET]     (default ../shared 200 65536); BOX=NoCuts works without a pool of cuts
 set -eu
 top=$(cd "$(dirname "$0")/.." && pwd)
 shared=${1:-$top/../shared}
 most=${2:-200}
 budget=${3:-65536}
+box=${BOX:-CutPool}
+[ "$box" = NoCuts ] && shared_box='NoCuts' || shared_box='CutPool::new(rt.alloc(), instance.n())'
 . "$top/bench/workspace.sh"
-workspace effort 'ports tspdef distx cyc tspinst neigh linkern cutform branchx pricer lpcheck simplex treebook pathtour opening worker grunt treesearch anyhow'
+workspace effort 'ports tspdef distx cyc tspinst neigh linkern cutform cutpool branchx pricer lpcheck simplex treebook pathtour opening worker grunt treesearch anyhow'
 cat >"$work/crates/effort/src/main.rt" <<'RT'
 //! effort INSTANCE BUDGET: cities, nodes settled and left open, the best length, rounds, rows of subtour cuts, of combs with pairs
 //! as teeth, of other combs, columns, the most rounds of a node, and milliseconds of the processor.
 #![tactic(auto)]
 
 use anyhow::{Result, anyhow, bail};
+use cutpool::KIND;
 use grunt::LpWorker;
 use opening::find_opening;
 use ports::{Desk, FileDesk, Inlet};
@@ -49,7 +52,8 @@ fn main(rt: HostRuntime) -> Result<()> {
     };
     let start = rt.thread_cpu_time()?;
     let opening = find_opening(rt.alloc(), &instance, 1)?;
-    let found = search(rt.alloc(), &instance, opening, &LpWorker, budget, 1)?;
+    let mut shared = MADE;
+    let found = search(rt.alloc(), &instance, opening, &LpWorker, &mut shared, budget, 1)?;
     let end = rt.thread_cpu_time()?;
     let took = end.saturating_sub(start).as_millis();
     let c = found.effort;
@@ -61,6 +65,7 @@ fn main(rt: HostRuntime) -> Result<()> {
     Ok(())
 }
 RT
+sed -i "s/KIND/$box/; s/MADE/$shared_box/" "$work/crates/effort/src/main.rt"
 (cd "$work/crates/effort" && rt run -- "$shared/instances/none" 1 >"$work/log" 2>&1) || true
 effort=$work/crates/effort/out/effort
 [ -x "$effort" ] || { tail -30 "$work/log" >&2; exit 1; }

@@ -8,7 +8,7 @@
 set -eu
 top=$(cd "$(dirname "$0")/.." && pwd)
 . "$top/bench/workspace.sh"
-workspace writebench 'tspdef cyc distx tspinst neigh linkern cutform branchx pricer lpcheck simplex treebook pathtour opening worker treesearch certform anyhow'
+workspace writebench 'tspdef cyc distx tspinst neigh linkern cutform cutpool branchx pricer lpcheck simplex treebook pathtour opening worker treesearch certform anyhow'
 cat >"$work/crates/writebench/src/main.rt" <<'RT'
 //! writebench: times the writing of two bodies. Prints for each its name, its bytes and the best time in microseconds.
 #![tactic(auto)]
@@ -17,6 +17,7 @@ use anyhow::{Result, bail};
 use branchx::Branch;
 use certform::body;
 use cutform::Cut;
+use cutpool::NoCuts;
 use cyc::{CitySet, Tour};
 use distx::{Kind, Point};
 use opening::find_opening;
@@ -135,7 +136,7 @@ fn time(rt: &HostRuntime, instance: &Instance, tour: &Tour, tree: &Tree) -> Resu
 fn searched(rt: &HostRuntime) -> Result<()> {
     let instance = instance(rt.alloc(), 200)?;
     let opening = find_opening(rt.alloc(), &instance, 1)?;
-    let found = search(rt.alloc(), &instance, opening, &PlainWorker, 65536, 1)?;
+    let found = search(rt.alloc(), &instance, opening, &PlainWorker, &mut NoCuts, 65536, 1)?;
     let (bytes, best) = time(rt, &instance, &found.best, &found.tree)?;
     println!(rt; "search {bytes} {best}")?;
     Ok(())

@@ -1,7 +1,7 @@
 -- A pool of cuts: a list of distinct cuts of n cities, numbered from 0.
-use Rattle.std.specs.Prelude.{◌≡◌, ◌≢◌, ℕ, ◌^◌, ◌<◌, ◌⊎◌, Bool, int_le, pos, List, [], ◌∷◌, ◌++◌, length, slice_get, Some}
+use Rattle.std.specs.Prelude.{◌≡◌, ◌≢◌, ℕ, ◌^◌, ◌<◌, ◌⊎◌, Bool, ◌==◌, ◌&&◌, int_le, pos, ◌≤ℤ◌, List, [], ◌∷◌, ◌++◌, length, slice_get, Some}
 use Rattle.std.specs.List.{AllByRecursion, Contains, filter}
-use Rattle.tspdef.specs.Cuts.{Cut, cities_of}
+use Rattle.tspdef.specs.Cuts.{Cut, IsCut, cities_of}
 use Rattle.tspdef.specs.Bounds.{violation}
 use Rattle.cyc.specs.Frac.{Values, value_of}
 use Rattle.cutpool.specs.declared.pool.Placed.{Placed}
@@ -51,3 +51,12 @@ misses x cut = int_le (pos (2 ^ 10)) (violation (value_of x.entries) x.n cut)
 -- the cuts that are violated by so much, in their order
 abbrev pub violated_cuts : Values → List Cut → List Cut
 violated_cuts x cuts = filter (misses x) cuts
+
+-- the cut is of as many cities as the values, and they violate it by so much
+abbrev pub is_worth : Values → Cut → Bool
+is_worth x cut = (cities_of cut == x.n) && misses x cut
+
+-- A cut of the values' cities, violated by 2^10 units or more.
+pub record IsWorthAdding (x : Values) (cut : Cut) : Type 0 where
+  pub is_cut : IsCut x.n cut
+  pub violated : pos (2 ^ 10) ≤ℤ violation (value_of x.entries) x.n cut

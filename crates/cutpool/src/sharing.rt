@@ -1,5 +1,5 @@
 //! What a worker on a node sees of a pool.
-ghost use Rattle.std.specs.Prelude.{◌≡◌, ◌≢◌, [], IfOk, OnOk, OnErr, IsOk};
+ghost use Rattle.std.specs.Prelude.{◌≡◌, ◌≢◌, Bool, true, [], IfOk, OnOk, OnErr, IsOk};
 ghost use Rattle.std.specs.List.{All};
 ghost use Rattle.tspdef.specs.Cuts.{IsCut};
 ghost use Rattle.cutpool.specs.Pool.{IsShared, violated_cuts};
@@ -9,19 +9,27 @@ use cutform::Cut;
 use cyc::Frac;
 use std::alloc::{AllocError, Global};
 
-/// A box that takes cuts and gives cuts. What it gives may be violated or not: whoever fetches asks that again.
+/// A box that takes cuts and gives cuts. What it gives may be violated or not: whoever fetches asks that again
+/// ([`worth_adding`](crate::worth_adding)).
+///
+/// Of a kind of box one thing is known, whether it is `honest`: then the cuts that it gives are of as many cities as the
+/// values. A box that is not may give any cuts.
 pub trait CutBox {
+    ghost honest: { Bool };
+
     /// Offers a cut to the box, and tells nothing of what became of it.
     fn share(&mut self, alloc: Global, cut: &Cut) -> Result<(), AllocError>;
 
-    /// Cuts that the values may violate: cuts of as many cities as the values have.
+    /// Cuts that the values may violate: of an honest box cuts of as many cities as the values have.
     fn fetch(&mut self, alloc: Global, x: &Frac) -> Result<Vec<Cut>, AllocError>
-        ensures cuts { IfOk result (λ cuts. All (IsCut x.now.n) cuts.items) };
+        ensures cuts { honest ≡ true → IfOk result (λ cuts. All (IsCut x.now.n) cuts.items) };
 }
 
 /// Cuts of another number of cities, and those for which there is no room, are passed over; values on another number of
 /// cities get no cut.
 impl CutBox for CutPool {
+    ghost honest = { true };
+
     fn share(&mut self, alloc: Global, cut: &Cut) -> Result<(), AllocError>
         ensures shared { OnOk result (IsShared self.old self.new cut.now) }
         ensures unchanged { OnErr result (self.new ≡ self.old) }
@@ -51,6 +59,8 @@ impl CutBox for CutPool {
 pub struct NoCuts;
 
 impl CutBox for NoCuts {
+    ghost honest = { true };
+
     fn share(&mut self, _alloc: Global, _cut: &Cut) -> Result<(), AllocError>
         ensures { IsOk result }
     {

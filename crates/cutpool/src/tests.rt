@@ -1,6 +1,6 @@
 ghost use Rattle.std.specs.Prelude.{◌≤◌};
 
-use crate::{CutBox, CutPool, NoCuts, Placed};
+use crate::{CutBox, CutPool, NoCuts, Placed, worth_adding};
 use cutform::{Cut, Kind};
 use cyc::{CitySet, Entry, Frac};
 use std::alloc::Global;
@@ -91,5 +91,25 @@ fn a_box_passes_over_cuts_of_other_cities(rt: HostRuntime) -> Result<(), Fail> {
     let wider = Frac::new(alloc, 7, Vec::new(alloc))?;
     assert!(rt; pool.fetch(alloc, &wider)?.is_empty());
     assert!(rt; given_back(alloc, &mut NoCuts, &comb(alloc)?, &x)?.is_empty());
+    Ok(())
+}
+
+/// Of a cut of other cities, the comb, a cut that is met, and the comb again the comb twice, or once.
+#[test]
+fn cuts_of_any_box_are_sifted(rt: HostRuntime) -> Result<(), Fail> {
+    let alloc = rt.alloc();
+    let x = prism(alloc)?;
+    for most in [2usize, 1] {
+        let mut cuts = Vec::new(alloc);
+        cuts.push(subtour(alloc, 7, &[0, 1])?)?;
+        cuts.push(comb(alloc)?)?;
+        cuts.push(subtour(alloc, 6, &[0, 1])?)?;
+        cuts.push(comb(alloc)?)?;
+        let kept = worth_adding(alloc, &x, cuts, most)?;
+        assert_eq!(rt; kept.len(), most);
+        for cut in &kept {
+            assert_eq!(rt; cut.kind(), Kind::Comb);
+        }
+    }
     Ok(())
 }

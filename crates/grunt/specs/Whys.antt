@@ -12,6 +12,7 @@ use Rattle.simplex.specs.declared.answer.LpAnswer.{LpAnswer}
 use Rattle.simplex.specs.declared.answer.LpAnswer.TheVariants as answers
 use Rattle.nodelp.specs.Node.{IsNodeLp, IsClean, HasSolved, IsPriced}
 use Rattle.nodelp.specs.Duals.{closing_of, newest_duals}
+use Rattle.worker.specs.Splits.{level}
 use Rattle.worker.specs.Works.{best_after}
 use Rattle.worker.specs.declared.work.Work.{Work}
 use Rattle.worker.specs.declared.work.Why.{Why}
@@ -57,6 +58,7 @@ Explains i path l (Closed c) (Some why) = ⊥
 Explains i path l (Split b) None = ⊥
 Explains i path l (Split b) (Some why) = IsReason i path l why
 
--- work whose split, if it is one, has its reason for the lesser of the best length and that of the tour that was found
-abbrev pub IsExplained : Instance → List Condition → ℕ → Work → Type 0
-IsExplained i path best w = Explains i path (best_after i best w.tour) w.report w.why
+-- work whose split, if it is one, has its reason for the level of the lesser of the best length and that of the tour that was found, and
+-- a gap
+abbrev pub IsExplained : Instance → List Condition → ℕ → ℕ → Work → Type 0
+IsExplained i path best gap w = Explains i path (level (best_after i best w.tour) gap) w.report w.why

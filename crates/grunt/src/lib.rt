@@ -5,6 +5,7 @@
 //! - [`Worker`], [`Work`], [`Why`], [`Effort`] and [`PlainWorker`] are those of the crate `worker`.
 #![tactic(auto)]
 
+mod boxes;
 mod efforts;
 mod light;
 mod missed;

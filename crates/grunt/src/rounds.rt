@@ -4,14 +4,18 @@ ghost use Rattle.tspdef.specs.Cuts.{IsCut};
 ghost use Rattle.nodelp.specs.Node.{IsNodeLp, IsClean, HasSolved, IsMissed};
 ghost use Rattle.simplex.specs.Lp.{is_counted};
 ghost use Rattle.worker.specs.Works.{cliques};
+ghost use Rattle.sepblos.specs.Violated.{IsWorth};
+ghost use Rattle.grunt.specs.Missed.{MissesNoCut};
 ghost use Rattle.grunt.specs.Whys.{MissesNone, LacksNothing};
 ghost use Rattle.grunt.specs.Rounds.{IsReady, IsLook, HasGrown, HasEnded};
 
+use crate::boxes::{fetched_cuts, share_all};
 use crate::missed::missed_cuts;
 use crate::proposals::handles_of;
 use branchx::Path;
 use cutform::Cut;
-use cyc::CitySet;
+use cutpool::CutBox;
+use cyc::Frac;
 use nodelp::NodeLp;
 use pricer::{Closing, bound, needed};
 use simplex::{Lp, LpAnswer};
@@ -29,16 +33,17 @@ pub(crate) struct Look {
     pub(crate) bound: i128,
 }
 
-/// Solves a node's relaxation round after round, until the duals close the node, nothing is missing, or the rounds are used
-/// up; what the last solve shows.
+/// Solves a node's relaxation round after round, until the duals close the node for tours of the length that is wanted, nothing is
+/// missing, or the rounds are used up; what the last solve shows.
 ///
 /// Each round but the last adds a row that the values missed or a column of negative reduced cost, so that the next solve
 /// counts as a round of the program too.
-pub(crate) fn rounds(
+pub(crate) fn rounds<B: CutBox>(
     alloc: Global,
     instance: &Instance,
+    shared: &mut B,
     path: &Path,
-    best: u64,
+    wanted: u64,
     node: &mut NodeLp,
 ) -> Result<Look, AllocError>
     requires cities { path.now.n ≡ instance.now.n }
@@ -49,15 +54,15 @@ pub(crate) fn rounds(
     requires no_cuts { node.old.cuts ≡ [] }
     requires no_rounds { node.old.program.rounds ≡ 0 }
     ensures look { IfOk result (IsLook instance.now path.now.conditions node.new) }
-    ensures ended { IfOk result (HasEnded instance.now path.now.conditions best node.new) }
+    ensures ended { IfOk result (HasEnded instance.now path.now.conditions wanted node.new) }
 {
     let _n = instance.n();
     for _ in 0..ROUNDS - 1 {
         let newest = solved(alloc, instance, path, node)?;
-        if newest.bound > needed(best) {
+        if newest.bound > needed(wanted) {
             return Ok(newest);
         }
-        if !grow(alloc, instance, path, node)? {
+        if !grow(alloc, instance, shared, path, node)? {
             return Ok(newest);
         }
     }
@@ -87,10 +92,11 @@ fn solved(
     Ok(Look { closing, bound })
 }
 
-/// Adds what a node's newest answer lacks, and says whether that was anything.
-fn grow(
+/// Adds what a node's newest answer lacks, and says whether that was anything. Cuts that are added are shared.
+fn grow<B: CutBox>(
     alloc: Global,
     instance: &Instance,
+    shared: &mut B,
     path: &Path,
     node: &mut NodeLp,
 ) -> Result<bool, AllocError>
@@ -101,22 +107,23 @@ fn grow(
     ensures same { IfOk result (λ more. more ≡ false → node.new ≡ node.old) }
     ensures full { IfOk result (λ more. more ≡ false → LacksNothing instance.now path.now.conditions node.old.program) }
 {
-    let known = handles_of(alloc, node.cuts())?;
-    let cuts = newly_missed(alloc, instance, node.lp(), &known)?;
-    if cuts.is_empty() {
+    let missed = newly_missed(alloc, instance, shared, node.lp(), node.cuts())?;
+    if missed.is_empty() {
         return node.add_negative(alloc, instance, path);
     }
-    node.add_cuts(alloc, cuts)?;
+    share_all(alloc, shared, &missed)?;
+    node.add_cuts(alloc, missed)?;
     Ok(true)
 }
 
-/// Cuts that the newest values miss by 2^10 units or more, if the newest answer is Solved: none only where they miss no cut
-/// of the separations. Handles that are known are tried too.
-fn newly_missed(
+/// Cuts that the newest values miss by 2^10 units or more, if the newest answer is Solved: those of the box, or else those of the
+/// separations, none only where they miss no cut of these. The handles of the cuts that are there are tried too.
+fn newly_missed<B: CutBox>(
     alloc: Global,
     instance: &Instance,
+    shared: &mut B,
     lp: &Lp,
-    known: &[CitySet],
+    there: &[(Cut, u32)],
 ) -> Result<Vec<Cut>, AllocError>
     requires cities { lp.now.n ≡ instance.now.n }
     requires clean { IsClean lp.now }
@@ -127,7 +134,28 @@ fn newly_missed(
     ensures none { IfOk result (λ cuts. length cuts.items ≡ 0 → MissesNone lp.now.last) }
 {
     match lp.last() {
-        Some(LpAnswer::Solved { x, .. }) => missed_cuts(alloc, instance, x, known),
+        Some(LpAnswer::Solved { x, .. }) => fetched_or_found(alloc, instance, shared, x, there),
         _ => Ok(Vec::new(alloc)),
     }
+}
+
+/// Cuts that the values miss by 2^10 units or more: those of the box, or else those of the separations.
+fn fetched_or_found<B: CutBox>(
+    alloc: Global,
+    instance: &Instance,
+    shared: &mut B,
+    x: &Frac,
+    there: &[(Cut, u32)],
+) -> Result<Vec<Cut>, AllocError>
+    requires cities { x.now.n ≡ instance.now.n }
+    ensures worth { IfOk result (λ cuts. All (IsWorth x.now) cuts.items) }
+    ensures few { IfOk result (λ cuts. length cuts.items ≤ 4096) }
+    ensures none { IfOk result (λ cuts. length cuts.items ≡ 0 → MissesNoCut x.now) }
+{
+    let fetched = fetched_cuts(alloc, shared, x)?;
+    if !fetched.is_empty() {
+        return Ok(fetched);
+    }
+    let known = handles_of(alloc, there)?;
+    missed_cuts(alloc, instance, x, &known)
 }

@@ -5,7 +5,7 @@ ghost use Rattle.tspdef.specs.Bounds as bounds;
 ghost use Rattle.branchx.specs.Branch.{IsSplit};
 ghost use Rattle.treebook.specs.Tree.{branch_of};
 ghost use Rattle.nodelp.specs.Node.{IsClean};
-ghost use Rattle.worker.specs.Splits.{IsNeededSplit, IsOpenQuestion, IsEdge};
+ghost use Rattle.worker.specs.Splits.{IsNeededSplit, IsOpenQuestion, IsEdge, level};
 ghost use Rattle.worker.specs.Works.{IsWork, SplitsOnly, IsSplitting};
 ghost use Rattle.grunt.specs.Whys.{IsExplained};
 ghost use Rattle.grunt.specs.Rounds.{IsLook, HasEnded};
@@ -21,9 +21,9 @@ use pricer::{Report, needed};
 use simplex::{Lp, LpAnswer};
 use std::alloc::{AllocError, Global};
 use tspinst::Instance;
-use worker::{Effort, Work, zeros_that_close};
+use worker::{Effort, Work, level, whole_length, zeros_that_close};
 
-/// Closes a node by its newest duals, where these suffice; else offers the tour to which the values lead, and closes the
+/// Closes a node by its newest duals, where these suffice for the level; else offers the tour to which the values lead, and closes the
 /// node for that one, or splits it.
 pub(crate) fn settle(
     alloc: Global,
@@ -32,34 +32,37 @@ pub(crate) fn settle(
     path: &Path,
     best: u64,
     seed: u64,
+    gap: u64,
     node: NodeLp,
     newest: Look,
 ) -> Result<Work, AllocError>
     requires cities { path.now.n ≡ instance.now.n }
     requires lists { near.now.n ≡ instance.now.n }
-    requires question { IsOpenQuestion instance.now best path.now.conditions }
+    requires question { IsOpenQuestion instance.now (level best gap) path.now.conditions }
     requires look { IsLook instance.now path.now.conditions node newest }
-    requires ended { HasEnded instance.now path.now.conditions best node newest }
-    ensures splits { IfOk result (λ w. SplitsOnly IsNeededSplit instance.now path.now.conditions best w.report) }
-    ensures work { IfOk result (IsWork instance.now path.now.conditions best) }
-    ensures explained { IfOk result (IsExplained instance.now path.now.conditions best) }
+    requires ended { HasEnded instance.now path.now.conditions (level best gap) node newest }
+    ensures splits { IfOk result (λ w. SplitsOnly IsNeededSplit instance.now path.now.conditions best w.report gap) }
+    ensures work { IfOk result (IsWork instance.now path.now.conditions best gap) }
+    ensures explained { IfOk result (IsExplained instance.now path.now.conditions best gap) }
     ensures why { IfOk result (λ w. IsSome w.why ↔ IsSplitting w.report) }
 {
-    if suffices(&newest, best) {
-        return Ok(Work::closed(None, newest.closing));
+    if suffices(&newest, level(best, gap)) {
+        return Ok(Work::closed(None, newest.closing, newest.bound));
     }
     let (tour, shortest) = shorter_tour(alloc, instance, near, node.lp(), best, seed)?;
-    if suffices(&newest, shortest) {
-        return Ok(Work::closed(tour, newest.closing));
+    let wanted = level(shortest, gap);
+    if suffices(&newest, wanted) {
+        return Ok(Work::closed(tour, newest.closing, newest.bound));
     }
-    match zeros_that_close(alloc, instance, path, shortest)? {
-        Some(zeros) => Ok(Work::closed(tour, zeros)),
+    match zeros_that_close(alloc, instance, path, wanted)? {
+        Some(zeros) => Ok(Work::closed(tour, zeros, newest.bound)),
         None => {
             let branch = branch_at(alloc, path, node.lp())?;
             Ok(Work {
                 tour,
                 report: Report::Split(branch),
                 why: Some(reason_of(node)),
+                hint: whole_length(newest.bound),
                 effort: Effort {
                     split: 1,
                     ..Effort::none()

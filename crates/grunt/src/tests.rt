@@ -1,11 +1,15 @@
 //! Nodes that are closed, and one that is split, at their roots.
+ghost use Rattle.std.specs.Prelude.{◌≤◌};
+
 use crate::LpWorker;
-use cutform::Kind as CutKind;
+use cutform::{Cut, Kind as CutKind};
+use cutpool::{CutBox, CutPool, NoCuts};
+use cyc::{CitySet, Frac};
 use distx::{Kind, Point};
 use neigh::nearest;
 use ports::{MemDesk, Room};
 use pricer::{Fit, Report, bound, fits};
-use std::alloc::Global;
+use std::alloc::{AllocError, Global};
 use std::process::Abort;
 use std::test::Fail;
 use tspinst::{Instance, from_points, read};
@@ -46,11 +50,12 @@ fn told(alloc: Global, text: &[u8]) -> Result<Instance, Fail> {
     Ok(read(alloc, &mut desk)?)
 }
 
-/// What a worker does at the root, over lists of three near cities.
-fn root_work<W: Worker>(
+/// What a worker does at the root, over lists of three near cities, with a box and no gap.
+fn boxed_work<W: Worker, B: CutBox>(
     rt: &impl Abort,
     alloc: Global,
     worker: &W,
+    shared: &mut B,
     instance: &Instance,
     best: u64,
 ) -> Result<Work, Fail> {
@@ -58,7 +63,91 @@ fn root_work<W: Worker>(
     assert!(rt; best < 1 << 42);
     let near = nearest(alloc, instance, 3)?;
     let path = root_path(alloc, instance)?;
-    Ok(worker.work(alloc, instance, &near, &path, best, 1)?)
+    Ok(worker.work(alloc, instance, &near, shared, &path, best, 1, 0)?)
+}
+
+/// What a worker does at the root without a box.
+fn root_work<W: Worker>(
+    rt: &impl Abort,
+    alloc: Global,
+    worker: &W,
+    instance: &Instance,
+    best: u64,
+) -> Result<Work, Fail> {
+    boxed_work(rt, alloc, worker, &mut NoCuts, instance, best)
+}
+
+/// A box that keeps copies of the cuts that are shared, and gives nothing.
+#[derive(Drop)]
+struct Recorder {
+    cuts: Vec<Cut>,
+}
+
+impl CutBox for Recorder {
+    ghost honest = { true };
+
+    fn share(&mut self, alloc: Global, cut: &Cut) -> Result<(), AllocError> {
+        self.cuts.push(cut.copy(alloc)?)?;
+        Ok(())
+    }
+
+    fn fetch(&mut self, alloc: Global, _x: &Frac) -> Result<Vec<Cut>, AllocError> {
+        Ok(Vec::new(alloc))
+    }
+}
+
+/// A box that keeps nothing, and gives the same cuts for ever, 65,536 of them: cuts of other cities, cuts that each x meets, and one
+/// cut many times.
+#[derive(Drop)]
+struct Liar {
+    foreign: Cut,
+    met: Cut,
+    same: Cut,
+}
+
+impl CutBox for Liar {
+    ghost honest = { false };
+
+    fn share(&mut self, _alloc: Global, _cut: &Cut) -> Result<(), AllocError> {
+        Ok(())
+    }
+
+    fn fetch(&mut self, alloc: Global, _x: &Frac) -> Result<Vec<Cut>, AllocError> {
+        let mut cuts = Vec::new(alloc);
+        for _ in 0..16_384u32 {
+            cuts.push(self.foreign.copy(alloc)?)?;
+            cuts.push(self.met.copy(alloc)?)?;
+            cuts.push(self.same.copy(alloc)?)?;
+            cuts.push(self.same.copy(alloc)?)?;
+        }
+        Ok(cuts)
+    }
+}
+
+/// The subtour cut of some cities.
+fn subtour(alloc: Global, n: u32, cities: &[u32]) -> Result<Cut, Fail>
+    requires many { 3 ≤ n }
+    requires few { n ≤ 2000 }
+{
+    Ok(Cut::subtour(
+        alloc,
+        CitySet::new(alloc, n, Vec::from_slice(alloc, cities)?)?,
+    )?)
+}
+
+/// The comb that the values of a prism violate.
+fn prism_comb(alloc: Global) -> Result<Cut, Fail> {
+    let mut teeth = Vec::new(alloc);
+    for u in 0..3u32 {
+        teeth.push(CitySet::new(alloc, 6, Vec::from_slice(alloc, &[u, u + 3])?)?)?;
+    }
+    let handle = CitySet::new(alloc, 6, Vec::from_slice(alloc, &[0, 1, 2])?)?;
+    Ok(Cut::comb(alloc, handle, teeth)?)
+}
+
+/// Whether there is a comb among some cuts.
+fn has_comb(cuts: &[Cut]) -> bool {
+    cuts.iter().any(|cut| cut.kind() == CutKind::Comb)
 }
 
 /// Whether the work closes the root by a closing with a bound above a number.
@@ -165,11 +254,55 @@ fn petersens_graph_is_split_with_a_reason(rt: HostRuntime) -> Result<(), Fail> {
     let instance = told(alloc, PETERSEN)?;
     let work = root_work(&rt, alloc, &LpWorker, &instance, 11)?;
     assert!(rt; is_checked(&work));
+    assert_eq!(rt; work.hint, 10);
     assert_eq!(rt; work.effort.closed, 0);
     assert_eq!(rt; work.effort.split, 1);
     assert!(rt; 0 < work.effort.rounds);
     assert_eq!(rt; work.effort.most_rounds, work.effort.rounds);
     assert!(rt; 0 < work.effort.columns);
     assert!(rt; matches!(&work.report, Report::Split(_)));
+    Ok(())
+}
+
+#[test]
+fn cuts_are_shared(rt: HostRuntime) -> Result<(), Fail> {
+    let alloc = rt.alloc();
+    let instance = told(alloc, PRISM)?;
+    let mut recorder = Recorder {
+        cuts: Vec::new(alloc),
+    };
+    let work = boxed_work(&rt, alloc, &LpWorker, &mut recorder, &instance, 4)?;
+    assert!(rt; closes_above(&rt, alloc, &instance, &work, 3 << 20)?);
+    assert!(rt; has_comb(&recorder.cuts));
+    Ok(())
+}
+
+#[test]
+fn cuts_of_a_pool_are_used(rt: HostRuntime) -> Result<(), Fail> {
+    let alloc = rt.alloc();
+    let instance = told(alloc, PRISM)?;
+    let mut pool = CutPool::new(alloc, 6);
+    let first = boxed_work(&rt, alloc, &LpWorker, &mut pool, &instance, 4)?;
+    let many = pool.len();
+    assert!(rt; 0 < many);
+    let second = boxed_work(&rt, alloc, &LpWorker, &mut pool, &instance, 4)?;
+    assert!(rt; closes_above(&rt, alloc, &instance, &second, 3 << 20)?);
+    assert!(rt; second.effort.rounds <= first.effort.rounds);
+    assert_eq!(rt; pool.len(), many);
+    Ok(())
+}
+
+#[test]
+fn a_box_that_lies_costs_time_alone(rt: HostRuntime) -> Result<(), Fail> {
+    let alloc = rt.alloc();
+    let instance = told(alloc, PRISM)?;
+    let mut liar = Liar {
+        foreign: subtour(alloc, 7, &[0, 1])?,
+        met: subtour(alloc, 6, &[0])?,
+        same: prism_comb(alloc)?,
+    };
+    let work = boxed_work(&rt, alloc, &LpWorker, &mut liar, &instance, 4)?;
+    assert!(rt; closes_above(&rt, alloc, &instance, &work, 3 << 20)?);
+    assert!(rt; closes_by_a_comb(&work));
     Ok(())
 }

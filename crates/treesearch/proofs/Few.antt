@@ -26,7 +26,7 @@ some zero = omega arith
 some (suc k) = let ih = some k in omega arith
 
 few_nodes : (i : Instance) (l : ℕ) (number : ℤ) (k : ℕ) (path : List Condition) (t : Tree) → i.n < 6 → open_pairs (is_decided path) i.n ≤ k
-    → AllSplits (λ at b. IsNeededSplit i at l b) path t → IsSound i number path t → settled t + open_leaves t ≤ most k
+    → AllSplits (λ at b. IsNeededSplit i at l b 0) path t → IsSound i number path t → settled t + open_leaves t ≤ most k
 few_nodes i l number k path open_leaf few left all sound = some k
 few_nodes i l number k path (closed_leaf c) few left all sound = some k
 few_nodes i l number zero path (edge_split u v a b) few left all sound =

@@ -1,4 +1,4 @@
-use Rattle.std.proofs.Common.{◌≡◌, ℕ, ◌≤◌, List, [], ◌∷◌, ◌++◌, sym, subst, Some}
+use Rattle.std.proofs.Common.{◌≡◌, ℕ, ◌≤◌, List, [], ◌∷◌, ◌++◌, sym, subst, Some, arith}
 use Rattle.tspdef.specs.Paths.{Condition, absent, present, two, four, fixed_conditions}
 use Rattle.tspdef.specs.Closings.{Closing, Fits}
 use Rattle.tspdef.specs.Trees.{Tree, open_leaf, closed_leaf, edge_split, clique_split, Side, first, second, open_path, with_leaf}
@@ -11,7 +11,7 @@ use Rattle.branchx.specs.declared.branch.Branch.TheVariants as branch
 use Rattle.treebook.specs.Tree.{branch_of}
 use Rattle.pricer.specs.declared.closing.Report.{Report}
 use Rattle.pricer.specs.declared.closing.Report.TheVariants.{Closed, Split}
-use Rattle.worker.specs.Splits.{Splits, StayForMore}
+use Rattle.worker.specs.Splits.{Splits, StayForMore, level}
 use Rattle.worker.specs.Works.{IsReport, SplitsOnly}
 use Rattle.treesearch.specs.Splits.{AllSplits, SplitBy}
 use Rattle.treesearch.specs.Searches.{Takes}
@@ -58,14 +58,18 @@ may_split n path (branch.Clique set) is = is.0
 
 -- taking a report
 pub taking_keeps : OpenNodesAreOpenLeaves → ClosingKeepsTables → SplittingKeepsTables → (S : Splits) (i : Instance) (l m : ℕ) (nodes new : List Node) (k : ℕ) (r : Report)
-    → IsTable i.n i.fixed nodes → IsOpen nodes k → IsReport i (path_at i.fixed nodes k) m r → SplitsOnly S i (path_at i.fixed nodes k) l r → Takes r k nodes new
+    → IsTable i.n i.fixed nodes → IsOpen nodes k → IsReport i (path_at i.fixed nodes k) m r → SplitsOnly S i (path_at i.fixed nodes k) l r 0 → Takes r k nodes new
     → SplitBy S i l (tree_of nodes) → SplitBy S i l (tree_of new)
 taking_keeps leaves closing splitting S i l m nodes new k (Closed c) t o is may e all =
-    subst (λ (x : List Node). SplitBy S i l (tree_of x)) (sym e) (closing_keeps leaves closing (λ path b. S i path l b) i.n i.fixed nodes k c t o is.fits all)
+    subst (λ (x : List Node). SplitBy S i l (tree_of x)) (sym e) (closing_keeps leaves closing (λ path b. S i path l b 0) i.n i.fixed nodes k c t o is.fits all)
 taking_keeps leaves closing splitting S i l m nodes new k (Split b) t o is may e all =
-    subst (λ (x : List Node). SplitBy S i l (tree_of x)) (sym e) (splitting_keeps leaves splitting (λ path b. S i path l b) i.n i.fixed nodes k (branch_of b) t o (may_split i.n (path_at i.fixed nodes k) b is) may all)
+    subst (λ (x : List Node). SplitBy S i l (tree_of x)) (sym e) (splitting_keeps leaves splitting (λ path b. S i path l b 0) i.n i.fixed nodes k (branch_of b) t o (may_split i.n (path_at i.fixed nodes k) b is) may all)
 
--- a split that may be for one length may be for greater ones
-pub only_more : (S : Splits) → StayForMore S → (i : Instance) (path : List Condition) (l m : ℕ) (r : Report) → l ≤ m → SplitsOnly S i path l r → SplitsOnly S i path m r
+-- a split that may be where tours of one length are known may be so where longer ones are
+pub only_more : (S : Splits) → StayForMore S → (i : Instance) (path : List Condition) (l m : ℕ) (r : Report) → l ≤ m → SplitsOnly S i path l r 0 → SplitsOnly S i path m r 0
 only_more S stay i path l m (Closed c) le may = tt
-only_more S stay i path l m (Split b) le may = stay i path l m (branch_of b) le may
+only_more S stay i path l m (Split b) le may = stay i path l m (branch_of b) 0 le may
+
+-- without a gap the level is the length
+pub no_gap : (i : Instance) (path : List Condition) (l : ℕ) (r : Report) → IsReport i path (level l 0) r → IsReport i path l r
+no_gap i path l r is = let e : level l 0 ≡ l = omega arith in subst (λ (m : ℕ). IsReport i path m r) e is

@@ -13,9 +13,9 @@ AllSplits P path (closed_leaf c) = Unit {0}
 AllSplits P path (edge_split u v a b) = P path (on_edge u v) × (AllSplits P (path ++ absent u v ∷ []) a × AllSplits P (path ++ present u v ∷ []) b)
 AllSplits P path (clique_split s a b) = P path (on_clique s) × (AllSplits P (path ++ two s ∷ []) a × AllSplits P (path ++ four s ∷ []) b)
 
--- each split is one that may be for tours of length l
+-- each split is one that may be where tours of length l are known, without a gap
 abbrev pub SplitBy : Splits → Instance → ℕ → Tree → Type 0
-SplitBy S i l t = AllSplits (λ path b. S i path l b) (root i) t
+SplitBy S i l t = AllSplits (λ path b. S i path l b 0) (root i) t
 
 -- each split is needed for tours of length l
 abbrev pub SplitsAreNeeded : Instance → ℕ → Tree → Type 0

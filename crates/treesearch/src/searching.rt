@@ -10,6 +10,7 @@ ghost use Rattle.treesearch.specs.Few.{FewCitiesEnd};
 ghost use Rattle.treesearch.specs.Searches.{IsSearch, IsSplitBy, IsFound, Takes, HasSettled, HasOneMore, HasEnded};
 
 use branchx::Branch;
+use cutpool::CutBox;
 use cyc::Tour;
 use neigh::Neigh;
 use opening::Opening;
@@ -30,12 +31,14 @@ pub struct Found {
 
 /// Starts with an opening's tour as the best one, and lets a sure worker work on open nodes, the one with the least number
 /// first, until none is open or `budget` nodes are settled, that is, closed or split. A tour that the worker finds is kept where
-/// it is shorter. A node's path costs O(depth).
-pub fn search<W: Worker>(
+/// it is shorter. No gap is allowed. The box is handed to each work on a node, so cuts of one may serve another. A node's path
+/// costs O(depth).
+pub fn search<W: Worker, B: CutBox>(
     alloc: Global,
     instance: &Instance,
     opening: Opening,
     worker: &W,
+    shared: &mut B,
     budget: u32,
     seed: u64,
 ) -> Result<Found, AllocError>
@@ -50,7 +53,9 @@ pub fn search<W: Worker>(
 {
     let Opening { near, tour } = opening;
     let mut found = start(alloc, instance, tour)?;
-    work(alloc, instance, &near, worker, &mut found, budget, seed)?;
+    work(
+        alloc, instance, &near, worker, shared, &mut found, budget, seed,
+    )?;
     Ok(found)
 }
 
@@ -72,11 +77,12 @@ fn start(alloc: Global, instance: &Instance, best: Tour) -> Result<Found, AllocE
     })
 }
 
-fn work<W: Worker>(
+fn work<W: Worker, B: CutBox>(
     alloc: Global,
     instance: &Instance,
     near: &Neigh,
     worker: &W,
+    shared: &mut B,
     found: &mut Found,
     budget: u32,
     seed: u64,
@@ -96,17 +102,18 @@ fn work<W: Worker>(
         let Some(node) = found.tree.least_open() else {
             return Ok(());
         };
-        settle(alloc, instance, near, worker, found, node, seed)?;
+        settle(alloc, instance, near, worker, shared, found, node, seed)?;
     }
     Ok(())
 }
 
 /// Lets the worker work on an open node, keeps the tour that it found where it is shorter, and closes or splits the node.
-fn settle<W: Worker>(
+fn settle<W: Worker, B: CutBox>(
     alloc: Global,
     instance: &Instance,
     near: &Neigh,
     worker: &W,
+    shared: &mut B,
     found: &mut Found,
     node: u32,
     seed: u64,
@@ -125,7 +132,7 @@ fn settle<W: Worker>(
     tables_are_trees();
     let _n = (instance.n(), found.tree.n());
     let path = found.tree.path_of(alloc, node)?;
-    let work = worker.work(alloc, instance, near, &path, found.length, seed)?;
+    let work = worker.work(alloc, instance, near, shared, &path, found.length, seed, 0)?;
     let (tour, report, effort) = parts(work);
     offer_found(instance, found, tour);
     take(alloc, instance, found, node, report)?;

@@ -1,4 +1,5 @@
 use crate::search;
+use cutpool::NoCuts;
 use distx::{Kind, Point};
 use opening::find_opening;
 use std::test::Fail;
@@ -16,7 +17,15 @@ fn a_search_counts_the_nodes_that_it_closes_and_splits(rt: HostRuntime) -> Resul
     ];
     let square = from_points(alloc, Kind::Euc, &corners)?;
     let opening = find_opening(alloc, &square, 1)?;
-    let found = search(alloc, &square, opening, &PlainWorker, 65_536, 1)?;
+    let found = search(
+        alloc,
+        &square,
+        opening,
+        &PlainWorker,
+        &mut NoCuts,
+        65_536,
+        1,
+    )?;
     assert_eq!(rt; found.length, 40);
     assert_eq!(rt; found.tree.open_nodes(), 0);
     let effort = found.effort;

@@ -12,6 +12,7 @@ ghost use Rattle.tspengine.specs.Outcomes.{IsOutcome, IsProof};
 use crate::texts::{length_text, optimal_text, stopped_text};
 use certdef::closed_is_accepted;
 use certform::{body, tables_fit, written_is_faithful};
+use cutpool::CutPool;
 use grunt::LpWorker;
 use opening::find_opening;
 use std::alloc::{AllocError, Global};
@@ -35,7 +36,7 @@ pub enum Outcome {
     },
 }
 
-/// Searches within a budget from the tour that a seed gives, and writes down what was found.
+/// Searches within a budget from the tour that a seed gives, with one pool of cuts for all nodes, and writes down what was found.
 pub(crate) fn outcome_of(
     alloc: Global,
     instance: &Instance,
@@ -48,7 +49,8 @@ pub(crate) fn outcome_of(
 {
     searches_of_few_cities_end();
     let opening = find_opening(alloc, instance, seed)?;
-    let found = search(alloc, instance, opening, &LpWorker, budget, seed)?;
+    let mut pool = CutPool::new(alloc, instance.n());
+    let found = search(alloc, instance, opening, &LpWorker, &mut pool, budget, seed)?;
     let body = body(alloc, instance, &found.best, &found.tree, found.length)?;
     if found.tree.open_nodes() == 0 {
         optimal(alloc, instance, &found, body)

@@ -1,3 +1,4 @@
 pub mod Edges
 pub mod PathCounts
+pub mod LevelLemmas
 pub mod RootPaths

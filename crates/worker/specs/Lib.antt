@@ -1,3 +1,4 @@
 pub mod Efforts
 pub mod Splits
+pub mod Hints
 pub mod Works

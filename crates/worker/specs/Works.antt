@@ -8,7 +8,7 @@ use Rattle.branchx.specs.Branch.{IsSplit}
 use Rattle.treebook.specs.Tree.{branch_of}
 use Rattle.pricer.specs.declared.closing.Report.{Report}
 use Rattle.pricer.specs.declared.closing.Report.TheVariants.{Closed, Split}
-use Rattle.worker.specs.Splits.{Splits}
+use Rattle.worker.specs.Splits.{Splits, level}
 use Rattle.worker.specs.declared.work.Work.{Work}
 
 -- a path begins with the fixed pairs of its instance
@@ -44,17 +44,18 @@ abbrev pub IsReport : Instance → List Condition → ℕ → Report → Type 0
 IsReport i path l (Closed c) = Closes i path l c
 IsReport i path l (Split b) = IsSplit i.n path b
 
--- a split is one that is so for tours of this length
-abbrev pub SplitsOnly : Splits → Instance → List Condition → ℕ → Report → Type 0
-SplitsOnly S i path l (Closed c) = Unit {0}
-SplitsOnly S i path l (Split b) = S i path l (branch_of b)
+-- a split is one that may be where tours of length l are known, and for a gap
+abbrev pub SplitsOnly : Splits → Instance → List Condition → ℕ → Report → ℕ → Type 0
+SplitsOnly S i path l (Closed c) gap = Unit {0}
+SplitsOnly S i path l (Split b) gap = S i path l (branch_of b) gap
 
 -- the report splits the node
 abbrev pub IsSplitting : Report → Type 0
 IsSplitting (Closed c) = ⊥
 IsSplitting (Split b) = Unit {0}
 
--- A tour of the instance, if one was found, and a report that is taken while the node is open, once the tour is offered.
-pub record IsWork (i : Instance) (path : List Condition) (best : ℕ) (w : Work) : Type 0 where
+-- A tour of the instance, if one was found, and a report that is taken while the node is open, once the tour is offered: a closing
+-- is one for the level of the lesser length, and a gap.
+pub record IsWork (i : Instance) (path : List Condition) (best gap : ℕ) (w : Work) : Type 0 where
   pub is_tour : IfSome w.tour (IsTourOf i)
-  pub report : IsReport i path (best_after i best w.tour) w.report
+  pub report : IsReport i path (level (best_after i best w.tour) gap) w.report

@@ -6,18 +6,20 @@ ghost use Rattle.tspdef.specs.Paths.{DecidesAll};
 ghost use Rattle.tspdef.specs.Rays.{AreStepsOf};
 ghost use Rattle.branchx.specs.Branch.{IsSplit};
 ghost use Rattle.treebook.specs.Tree.{branch_of};
-ghost use Rattle.worker.specs.Splits.{IsOpenQuestion, IsNeededSplit, IsEdge, needed_splits_stay};
+ghost use Rattle.worker.specs.Splits.{IsOpenQuestion, IsNeededSplit, IsEdge, level, needed_splits_stay};
 ghost use Rattle.worker.specs.Works.{BeginsAt, IsWork, SplitsOnly, IsSplitting, best_after};
 
 use crate::effort::Effort;
+use crate::levels::{level, whole_length};
 use crate::work::Work;
 use crate::workers::Worker;
-use crate::zeros::zeros_that_close;
+use crate::zeros::{zero_bound, zeros_that_close};
 use branchx::{Branch, Path, choose};
+use cutpool::CutBox;
 use cyc::{Frac, FracError, Tour};
 use neigh::Neigh;
 use pathtour::{tour_of, used_pairs_are_one_tour};
-use pricer::{Report, ray};
+use pricer::{Report, bound, ray};
 use std::alloc::{AllocError, Global};
 use tspinst::Instance;
 
@@ -31,44 +33,47 @@ impl Worker for PlainWorker {
 
     ghost splits_stay = { needed_splits_stay };
 
-    fn work(
+    fn work<B: CutBox>(
         &self,
         alloc: Global,
         instance: &Instance,
         _near: &Neigh,
+        _shared: &mut B,
         path: &Path,
         best: u64,
         _seed: u64,
+        gap: u64,
     ) -> Result<Work, AllocError>
         requires cities { path.now.n ≡ instance.now.n }
         requires begins { BeginsAt instance.now path.now.conditions }
         requires short { best < 2 ^ 42 }
-        ensures splits { IfOk result (λ w. SplitsOnly IsNeededSplit instance.now path.now.conditions best w.report) }
-        ensures work { IfOk result (IsWork instance.now path.now.conditions best) }
-        ensures exactly { IfOk result (λ w. IsSplitting w.report ↔ IsOpenQuestion instance.now best path.now.conditions) }
+        ensures splits { IfOk result (λ w. SplitsOnly IsNeededSplit instance.now path.now.conditions best w.report gap) }
+        ensures work { IfOk result (IsWork instance.now path.now.conditions best gap) }
+        ensures exactly { IfOk result (λ w. IsSplitting w.report ↔ IsOpenQuestion instance.now (level best gap) path.now.conditions) }
         ensures why { IfOk result (λ w. w.why ≡ None) }
     {
-        work_plainly(alloc, instance, path, best)
+        work_plainly(alloc, instance, path, best, gap)
     }
 }
 
-/// Closes a node where zero duals or a ray do, and else splits it: exactly where zero duals do not close it and a pair is
-/// undecided. It gives no reason.
+/// Closes a node where zero duals or a ray do, and else splits it: exactly where zero duals do not close it for the level of the
+/// best length and a gap and a pair is undecided. It gives no reason.
 pub fn work_plainly(
     alloc: Global,
     instance: &Instance,
     path: &Path,
     best: u64,
+    gap: u64,
 ) -> Result<Work, AllocError>
     requires cities { path.now.n ≡ instance.now.n }
     requires begins { BeginsAt instance.now path.now.conditions }
     requires short { best < 2 ^ 42 }
-    ensures splits { IfOk result (λ w. SplitsOnly IsNeededSplit instance.now path.now.conditions best w.report) }
-    ensures work { IfOk result (IsWork instance.now path.now.conditions best) }
-    ensures exactly { IfOk result (λ w. IsSplitting w.report ↔ IsOpenQuestion instance.now best path.now.conditions) }
+    ensures splits { IfOk result (λ w. SplitsOnly IsNeededSplit instance.now path.now.conditions best w.report gap) }
+    ensures work { IfOk result (IsWork instance.now path.now.conditions best gap) }
+    ensures exactly { IfOk result (λ w. IsSplitting w.report ↔ IsOpenQuestion instance.now (level best gap) path.now.conditions) }
     ensures why { IfOk result (λ w. w.why ≡ None) }
 {
-    if let Some(work) = first_look(alloc, instance, path, best)? {
+    if let Some(work) = first_look(alloc, instance, path, best, gap)? {
         return Ok(work);
     }
     let branch = first_branch(alloc, instance, path)?;
@@ -76,6 +81,7 @@ pub fn work_plainly(
         tour: None,
         report: Report::Split(branch),
         why: None,
+        hint: whole_length(zero_bound(alloc, instance, path)?),
         effort: Effort {
             split: 1,
             ..Effort::none()
@@ -105,24 +111,27 @@ pub fn first_look(
     instance: &Instance,
     path: &Path,
     best: u64,
+    gap: u64,
 ) -> Result<Option<Work>, AllocError>
     requires cities { path.now.n ≡ instance.now.n }
     requires begins { BeginsAt instance.now path.now.conditions }
     requires short { best < 2 ^ 42 }
-    ensures work { IfOk result (λ w. IfSome w (IsWork instance.now path.now.conditions best)) }
+    ensures work { IfOk result (λ w. IfSome w (IsWork instance.now path.now.conditions best gap)) }
     ensures closed { IfOk result (λ w. IfSome w (λ it. ¬ IsSplitting it.report)) }
     ensures why { IfOk result (λ w. IfSome w (λ it. it.why ≡ None)) }
-    ensures none { IfOk result (λ w. IsNone w ↔ IsOpenQuestion instance.now best path.now.conditions) }
+    ensures none { IfOk result (λ w. IsNone w ↔ IsOpenQuestion instance.now (level best gap) path.now.conditions) }
 {
-    if let Some(zeros) = zeros_that_close(alloc, instance, path, best)? {
-        return Ok(Some(Work::closed(None, zeros)));
+    if let Some(zeros) = zeros_that_close(alloc, instance, path, level(best, gap))? {
+        let bound = bound(instance, path, &zeros);
+        return Ok(Some(Work::closed(None, zeros, bound)));
     }
     if has_undecided(alloc, instance, path)? {
         return Ok(None);
     }
     let (tour, shortest) = used_tour(alloc, instance, path, best)?;
     let closing = ray(alloc, instance, path, shortest)?;
-    Ok(Some(Work::closed(tour, closing)))
+    let bound = bound(instance, path, &closing);
+    Ok(Some(Work::closed(tour, closing, bound)))
 }
 
 /// The lesser of two lengths.

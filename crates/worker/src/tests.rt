@@ -2,6 +2,7 @@ ghost use Rattle.std.specs.Prelude.{◌≡◌};
 
 use crate::{PlainWorker, Work, Worker};
 use branchx::{Branch, Cond, Path};
+use cutpool::NoCuts;
 use distx::{Kind, Point};
 use neigh::nearest;
 use pricer::Report;
@@ -59,6 +60,7 @@ fn plain_work(
     square: &Instance,
     path: &Path,
     best: u64,
+    gap: u64,
 ) -> Result<Work, Fail>
     requires { path.now.n ≡ 4 }
 {
@@ -66,7 +68,7 @@ fn plain_work(
     assert!(rt; square.fixed().is_empty());
     assert!(rt; best < 100);
     let near = nearest(alloc, square, 3)?;
-    Ok(PlainWorker.work(alloc, square, &near, path, best, 1)?)
+    Ok(PlainWorker.work(alloc, square, &near, &mut NoCuts, path, best, 1, gap)?)
 }
 
 #[test]
@@ -74,7 +76,24 @@ fn the_plain_worker_splits_a_square(rt: HostRuntime) -> Result<(), Fail> {
     let alloc = rt.alloc();
     let square = square(alloc)?;
     let path = Path::new(alloc, 4);
-    let work = plain_work(&rt, alloc, &square, &path, 40)?;
+    let work = plain_work(&rt, alloc, &square, &path, 40, 0)?;
+    assert!(rt; splits_by(&work, 0, 1));
+    assert_eq!(rt; work.hint, 0);
+    Ok(())
+}
+
+/// No tour is shorter than nothing.
+#[test]
+fn a_gap_of_the_best_length_closes_a_root(rt: HostRuntime) -> Result<(), Fail> {
+    let alloc = rt.alloc();
+    let square = square(alloc)?;
+    let path = Path::new(alloc, 4);
+    for gap in [40u64, 41] {
+        let work = plain_work(&rt, alloc, &square, &path, 40, gap)?;
+        assert!(rt; closes_by_zeros(&work));
+        assert!(rt; work.tour.is_none());
+    }
+    let work = plain_work(&rt, alloc, &square, &path, 40, 39)?;
     assert!(rt; splits_by(&work, 0, 1));
     Ok(())
 }
@@ -90,8 +109,9 @@ fn a_path_that_decides_all_is_closed(rt: HostRuntime) -> Result<(), Fail> {
     path.push(Cond::Present(0, 3))?;
     path.push(Cond::Absent(0, 2))?;
     path.push(Cond::Absent(1, 3))?;
-    let work = plain_work(&rt, alloc, &square, &path, 48)?;
+    let work = plain_work(&rt, alloc, &square, &path, 48, 0)?;
     assert!(rt; finds(&work, &[0, 1, 2, 3]));
     assert!(rt; closes_by_zeros(&work));
+    assert_eq!(rt; work.hint, 40);
     Ok(())
 }

@@ -3,6 +3,7 @@ ghost use Rattle.std.specs.Prelude.{◌≡◌, None};
 ghost use Rattle.pricer.specs.declared.closing.Report as reports;
 
 use crate::effort::Effort;
+use crate::levels::whole_length;
 use cyc::Tour;
 use pricer::{Closing, Report};
 use simplex::Lp;
@@ -18,19 +19,20 @@ pub enum Why {
     Checked(Lp),
 }
 
-/// A report on a node, with a tour that was found on the way, the reason of a split where a linear program has one, and what
-/// the work cost.
+/// A report on a node, with a tour that was found on the way, the reason of a split where a linear program has one, the node's
+/// bound rounded down to a whole length as a hint, and what the work cost. No promise rests on the hint.
 #[derive(Drop)]
 pub struct Work {
     pub tour: Option<Tour>,
     pub report: Report,
     pub why: Option<Why>,
+    pub hint: i64,
     pub effort: Effort,
 }
 
 impl Work {
-    /// A closing as work, without a reason.
-    pub fn closed(tour: Option<Tour>, closing: Closing) -> Work
+    /// A closing with its bound in units as work, without a reason.
+    pub fn closed(tour: Option<Tour>, closing: Closing, bound: i128) -> Work
         ensures tour { result.tour ≡ tour }
         ensures report { result.report ≡ reports.Report.Closed closing }
         ensures why { result.why ≡ None }
@@ -39,6 +41,7 @@ impl Work {
             tour,
             report: Report::Closed(closing),
             why: None,
+            hint: whole_length(bound),
             effort: Effort {
                 closed: 1,
                 ..Effort::none()

@@ -11,6 +11,15 @@ use std::alloc::{AllocError, Global};
 use tspdef::bound_is_below;
 use tspinst::Instance;
 
+/// What all duals 0 are worth to a node, in units. O(n^2).
+pub fn zero_bound(alloc: Global, instance: &Instance, path: &Path) -> Result<i128, AllocError>
+    requires { path.now.n ≡ instance.now.n }
+    ensures { IfOk result (λ b. b ≡ bounds.bound instance.now path.now.conditions (rays.zero_closing instance.now.n)) }
+{
+    let zeros = zero_closing(alloc, instance.n())?;
+    Ok(bound(instance, path, &zeros))
+}
+
 /// The closing whose duals are all 0, if it closes a node for tours of a length. O(n^2), for the bound.
 pub fn zeros_that_close(
     alloc: Global,

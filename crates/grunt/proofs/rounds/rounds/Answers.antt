@@ -3,7 +3,7 @@ use Rattle.grunt.proofs.RowLemmas.{few_rows, first_counts}
 use Rattle.grunt.proofs.rounds.rounds.Goals as goal
 
 pub loop-init : goal.loop-init
-loop-init c =
+loop-init g c =
     let i = c.args.instance.now in
     let node = c.args.node.now in
     let rows = few_rows i c.args.path.now.conditions node c.n-n.ensures.instance.few c.requires.few_cliques c.requires.no_cuts c.requires.node in

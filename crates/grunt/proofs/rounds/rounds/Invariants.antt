@@ -2,4 +2,4 @@ use Rattle.grunt.specs.Rounds.{IsReady}
 use Rattle.grunt.proofs.rounds.rounds.Given as goal
 
 abbrev pub invariant-loop : goal.invariant-loop
-invariant-loop l = IsReady l.instance l.path.conditions l.counter l.node
+invariant-loop g l = IsReady l.instance l.path.conditions l.counter l.node

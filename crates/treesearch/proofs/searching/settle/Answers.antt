@@ -9,7 +9,7 @@ use Rattle.worker.specs.Works.{IsReport, SplitsOnly, best_after}
 use Rattle.opening.specs.Openings.{opening_length}
 use Rattle.treesearch.specs.declared.searching.Found.{Found}
 use Rattle.treesearch.specs.Searches.{Takes, IsSearch, IsSplitBy}
-use Rattle.treesearch.proofs.Needs.{taking_keeps, only_more}
+use Rattle.treesearch.proofs.Needs.{taking_keeps, only_more, no_gap}
 use Rattle.treesearch.proofs.Lengths.{cliques_are_few, found_is_short}
 use Rattle.treesearch.proofs.searching.settle.Goals as goal
 
@@ -33,6 +33,21 @@ work-requires-clause-few_cliques g c =
 pub work-requires-clause-short : goal.work-requires-clause-short
 work-requires-clause-short g c = found_is_short c.args.instance.now c.args.found.now c.n.ensures.instance c.requires.found
 
+pub take-requires-clause-report : goal.take-requires-clause-report
+take-requires-clause-report g c =
+    let i = c.args.instance.now in
+    let best = c.args.found.now.length in
+    let path = c.in_ok-path.path.conditions in
+    let work = c.in_ok-work.work in
+    let report = c.parts-tour.result.1 in
+    let length = c.offer_found.new.found.length in
+    let is = no_gap i path (best_after i best work.tour) work.report (c.in_ok-work.ensures.work c.requires.sure).report in
+    let told = subst (λ (r : Report). IsReport i path (best_after i best work.tour) r) (sym c.parts-tour.ensures.report) is in
+    let offered = subst (λ o. IsReport i path (best_after i best o) report) (sym c.parts-tour.ensures.tour) told in
+    let least = subst (λ (m : ℕ). IsReport i path m report) (sym c.offer_found.ensures.least) offered in
+    subst (λ (t : Table). IsReport i (path_at t.fixed t.nodes c.args.node) length report) (sym c.offer_found.ensures.tree)
+    (subst (λ (p : Conditions). IsReport i p.conditions length report) c.in_ok-path.ensures least)
+
 pub returns-clause-splits : goal.returns-clause-splits
 returns-clause-splits g c = λ all.
     let i = c.args.instance.now in
@@ -45,9 +60,9 @@ returns-clause-splits g c = λ all.
     let is_table : IsTable i.n i.fixed nodes = subst (λ (pairs : List (ℕ × ℕ)). IsTable i.n pairs nodes) c.requires.found.fixed
     (subst (λ (n : ℕ). IsTable n c.args.found.now.tree.fixed nodes) (c.n-2.ensures.value ∙ c.requires.found.cities) c.n-2.ensures.is_table) in
     let fits = subst (λ (p : List Condition). IsReport i p (best_after i best work.tour) report) on
-    (subst (λ (r : Report). IsReport i path (best_after i best work.tour) r) (sym c.parts-tour.ensures.report) (c.in_ok-work.ensures.work c.requires.sure).report) in
-    let may = subst (λ (p : List Condition). SplitsOnly g.W.Worker.splits i p best report) on
-    (subst (λ (r : Report). SplitsOnly g.W.Worker.splits i path best r) (sym c.parts-tour.ensures.report) c.in_ok-work.ensures.splits) in
+    (subst (λ (r : Report). IsReport i path (best_after i best work.tour) r) (sym c.parts-tour.ensures.report) (no_gap i path (best_after i best work.tour) work.report (c.in_ok-work.ensures.work c.requires.sure).report)) in
+    let may = subst (λ (p : List Condition). SplitsOnly g.W.Worker.splits i p best report 0) on
+    (subst (λ (r : Report). SplitsOnly g.W.Worker.splits i path best r 0) (sym c.parts-tour.ensures.report) c.in_ok-work.ensures.splits) in
     let taken = subst (λ (t : Table). Takes report c.args.node t.nodes c.take.new.found.tree.nodes) c.offer_found.ensures.tree c.in_ok-take.ensures.takes in
     let kept = taking_keeps c.tables_are_trees.ensures.leaves c.tables_grow.ensures.closing c.tables_grow.ensures.splitting g.W.Worker.splits i (opening_length i) (best_after i best work.tour)
     nodes c.take.new.found.tree.nodes c.args.node report is_table c.requires.node fits
