@@ -81,6 +81,8 @@ pub record Tests : Type 0 where
   pub root : List Condition
   pub tour : List ℕ → Bool
   pub has_length : List ℕ → ℕ → Bool
+  -- a bound may be told with a length
+  pub below : ℕ → ℕ → Bool
   pub cut : Listed → Bool
   -- two cities from 0 are decided on a path
   pub decided : List Condition → ℕ → ℕ → Bool
@@ -109,6 +111,7 @@ verifier i = record {
   root = root i;
   tour = is_tour_from_one i;
   has_length = λ cs l. length_in i (from_zero cs) == l;
+  below = λ b l. nat_lt b l;
   cut = λ c. is_cut i.n (cut_of i.n c);
   decided = is_decided;
   proper = λ s. is_proper i.n (from_zero s);

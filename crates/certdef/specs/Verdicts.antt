@@ -1,5 +1,5 @@
 -- The verdict on the lines of a text, line by line: what may come next, and which refusal is told at which line.
-use Rattle.std.specs.Prelude.{ℕ, zero, suc, ◌+◌, ◌-◌, Bool, true, false, ◌&&◌, ◌==◌, nat_lt, nat_le, if◌then◌else◌, List, [], ◌∷◌, ◌++◌, length, map, Option, Some, None, ℤ}
+use Rattle.std.specs.Prelude.{ℕ, zero, suc, ◌+◌, ◌-◌, Bool, true, false, ◌&&◌, ◌==◌, nat_le, if◌then◌else◌, List, [], ◌∷◌, ◌++◌, length, map, Option, Some, None, ℤ}
 use Rattle.tspdef.specs.Paths.{Condition, absent, present, two, four}
 use Rattle.certdef.specs.Items.{Item, title_line, size_line, length_line, bound_line, tour_line, cuts_line, subtour_line, comb_line, handle_line, tooth_line, odd_line, pair_line, edge_line, clique_line, leaf_line, city_line, cut_line, condition_line, open_line, is_before, item_of}
 use Rattle.certdef.specs.Proofs.{Listed, subtour_cut, comb_cut, odd_cut, Duals}
@@ -114,9 +114,9 @@ abbrev pub on_length : ℕ → ℕ → Item → Outcome
 on_length v at (length_line l) = if v == 1 then go (wants_tour l l) else go (wants_bound l)
 on_length v at _ = refused 1 at
 
-abbrev pub on_bound : ℕ → ℕ → Item → Outcome
-on_bound l at (bound_line b) = if nat_lt b l then go (wants_tour l b) else refused 11 at
-on_bound l at _ = refused 1 at
+abbrev pub on_bound : Tests → ℕ → ℕ → Item → Outcome
+on_bound j l at (bound_line b) = if j.below b l then go (wants_tour l b) else refused 11 at
+on_bound j l at _ = refused 1 at
 
 abbrev pub on_tour : Tests → ℕ → ℕ → ℕ → Item → Outcome
 on_tour j l b at (tour_line cs) =
@@ -178,7 +178,7 @@ abbrev pub step : Tests → ℕ → Stage → Item → Outcome
 step j at wants_title x = on_title at x
 step j at (wants_size v) x = on_size j v at x
 step j at (wants_length v) x = on_length v at x
-step j at (wants_bound l) x = on_bound l at x
+step j at (wants_bound l) x = on_bound j l at x
 step j at (wants_tour l b) x = on_tour j l b at x
 step j at (wants_count l b) x = on_count j l b at x
 step j at (wants_cut h m) x = on_cut j h m at x

@@ -5,7 +5,7 @@ use Rattle.std.proofs.lemmas.Bool.{and_parts, eqb-true, ne_eqb, leb-true, leb-fa
 use Rattle.certdef.specs.Items.{Item, line, longest, in_bounds, item_of}
 use Rattle.certdef.specs.Proofs.{ended, text_of, lines}
 use Rattle.certdef.specs.Tests.{Tests, verifier}
-use Rattle.certdef.specs.Verdicts.{Stage, wants_title, wants_size, wants_length, wants_tour, wants_count, wants_cut, wants_handle, wants_tooth, wants_trees, wants_duals, yes, no, Outcome, go, refused, line_step, is_end, at_end, run}
+use Rattle.certdef.specs.Verdicts.{Stage, wants_title, wants_size, wants_length, wants_bound, wants_tour, wants_count, wants_cut, wants_handle, wants_tooth, wants_odd_handle, wants_pair, wants_trees, wants_duals, yes, no, Outcome, go, refused, line_step, is_end, at_end, run}
 use Rattle.certdef.specs.Bytes.{Reading, Read, reads, stops, start, line_on, byte_on, bytes_on, verdict_at_end}
 use Rattle.certdef.specs.Accepted.{most_bytes}
 use Rattle.verdict.proofs.Lines.{InLine, item_said, line_plain, small_if}
@@ -20,23 +20,23 @@ reads_in_pieces j (reads r) (x ∷ xs) ys = reads_in_pieces j (byte_on j r x) xs
 -- ---- from bytes to lines
 
 -- the bytes from here on complete the line that is begun, and are lines on which the machine says yes, and not too many
-pub record Lines (j : Tests) (l : ℕ) (r : Reading) (bs : List ℕ) : Type 0 where
+pub record Lines (j : Tests) (l : ℕ × ℕ) (r : Reading) (bs : List ℕ) : Type 0 where
   pub lines : List (List ℕ)
   pub said : r.begun ++ bs ≡ text_of lines
-  pub verdict : run j r.at (go r.stage) (map (item_of j.n) lines) ≡ yes l
+  pub verdict : run j r.at (go r.stage) (map (item_of j.n) lines) ≡ yes l.0 l.1
   pub few : 0 < length bs → r.read + length bs ≤ most_bytes
 
 few_more : (n : ℕ) (bs : List ℕ) → n < most_bytes → (0 < length bs → (n + 1) + length bs ≤ most_bytes) → n + suc (length bs) ≤ most_bytes
 few_more n [] l f = omega arith
 few_more n (b ∷ bs) l f = let g = f (omega arith) in omega arith
 
-end_line : (j : Tests) (l : ℕ) (r : Reading) (e : Bool) → nat_lt 0 (length r.begun) ≡ e → cond e (no 1 r.at) (at_end r.at r.stage) ≡ yes l → (b : List ℕ) → r.begun ≡ b → Lines j l r []
+end_line : (j : Tests) (l : ℕ × ℕ) (r : Reading) (e : Bool) → nat_lt 0 (length r.begun) ≡ e → cond e (no 1 r.at) (at_end r.at r.stage) ≡ yes l.0 l.1 → (b : List ℕ) → r.begun ≡ b → Lines j l r []
 end_line j l r true t h b e = cc
 end_line j l r false t h [] e = record { lines = []; said = ap (λ x. x ++ []) e; verdict = h; few = λ p. absurd (omega arith) }
 end_line j l r false t h (x ∷ xs) e = let n = ap length e in let f = lt-ltb 0 (length r.begun) (omega arith) in cc
 
-lf_line : (j : Tests) (l : ℕ) (r : Reading) (bs : List ℕ) (o : Outcome) → r.read < most_bytes → line_step j r.at r.stage (item_of j.n r.begun) ≡ o
-    → ((q : Reading) → verdict_at_end (bytes_on j (reads q) bs) ≡ yes l → Lines j l q bs) → verdict_at_end (bytes_on j (line_on r.at r.read o) bs) ≡ yes l → Lines j l r (10 ∷ bs)
+lf_line : (j : Tests) (l : ℕ × ℕ) (r : Reading) (bs : List ℕ) (o : Outcome) → r.read < most_bytes → line_step j r.at r.stage (item_of j.n r.begun) ≡ o
+    → ((q : Reading) → verdict_at_end (bytes_on j (reads q) bs) ≡ yes l.0 l.1 → Lines j l q bs) → verdict_at_end (bytes_on j (line_on r.at r.read o) bs) ≡ yes l.0 l.1 → Lines j l r (10 ∷ bs)
 lf_line j l r bs (refused k from) few e more h = cc
 lf_line j l r bs (go s) few e more h =
     let k = more (record { at = r.at + 1; read = r.read + 1; stage = s; begun = [] }) h in
@@ -47,9 +47,9 @@ lf_line j l r bs (go s) few e more h =
       few = λ p. few_more r.read bs few k.few;
     }
 
-byte_lines : (j : Tests) (l : ℕ) (r : Reading) (b : ℕ) (bs : List ℕ) (d e f g : Bool) → nat_le most_bytes r.read ≡ d → (b == 10) ≡ f → ((q : Reading) → verdict_at_end (bytes_on j (reads q) bs) ≡ yes l → Lines j l q bs)
+byte_lines : (j : Tests) (l : ℕ × ℕ) (r : Reading) (b : ℕ) (bs : List ℕ) (d e f g : Bool) → nat_le most_bytes r.read ≡ d → (b == 10) ≡ f → ((q : Reading) → verdict_at_end (bytes_on j (reads q) bs) ≡ yes l.0 l.1 → Lines j l q bs)
     → verdict_at_end (bytes_on j (cond d (stops 10 r.at) (cond e (stops 9 r.at) (cond f (line_on r.at r.read (line_step j r.at r.stage (item_of j.n r.begun)))
-    (cond g (reads (record { at = r.at; read = r.read + 1; stage = r.stage; begun = r.begun ++ b ∷ [] })) (stops 1 r.at))))) bs) ≡ yes l → Lines j l r (b ∷ bs)
+    (cond g (reads (record { at = r.at; read = r.read + 1; stage = r.stage; begun = r.begun ++ b ∷ [] })) (stops 1 r.at))))) bs) ≡ yes l.0 l.1 → Lines j l r (b ∷ bs)
 byte_lines j l r b bs true e f g u t more h = cc
 byte_lines j l r b bs false true f g u t more h = cc
 byte_lines j l r b bs false false true g u t more h =
@@ -60,24 +60,27 @@ byte_lines j l r b bs false false false true u t more h =
     record { lines = k.lines; said = sym (append_assoc r.begun (b ∷ []) bs) ∙ k.said; verdict = k.verdict; few = λ p. few_more r.read bs few k.few }
 byte_lines j l r b bs false false false false u t more h = cc
 
-bytes_lines : (j : Tests) (l : ℕ) (r : Reading) (bs : List ℕ) → verdict_at_end (bytes_on j (reads r) bs) ≡ yes l → Lines j l r bs
+bytes_lines : (j : Tests) (l : ℕ × ℕ) (r : Reading) (bs : List ℕ) → verdict_at_end (bytes_on j (reads r) bs) ≡ yes l.0 l.1 → Lines j l r bs
 bytes_lines j l r [] h = end_line j l r (nat_lt 0 (length r.begun)) refl h r.begun refl
 bytes_lines j l r (b ∷ bs) h = byte_lines j l r b bs (nat_le most_bytes r.read) (is_end r.stage) (b == 10) (nat_lt (length r.begun) longest) refl refl (λ q k. bytes_lines j l q bs k) h
 
 -- ---- from lines to bytes
 
-goes_on : (j : Tests) (l at : ℕ) (s : Stage) (r : Option Item) (xs : List (Option Item)) → run j (at + 1) (line_step j at s r) xs ≡ yes l → is_end s ≡ false
+goes_on : (j : Tests) (l : ℕ × ℕ) (at : ℕ) (s : Stage) (r : Option Item) (xs : List (Option Item)) → run j (at + 1) (line_step j at s r) xs ≡ yes l.0 l.1 → is_end s ≡ false
 goes_on j l at (wants_trees h []) None xs e = cc
 goes_on j l at (wants_trees h []) (Some x) xs e = cc
 goes_on j l at (wants_trees h (p ∷ ps)) r xs e = refl
 goes_on j l at wants_title r xs e = refl
-goes_on j l at wants_size r xs e = refl
-goes_on j l at wants_length r xs e = refl
-goes_on j l at (wants_tour k) r xs e = refl
-goes_on j l at (wants_count k) r xs e = refl
+goes_on j l at (wants_size v) r xs e = refl
+goes_on j l at (wants_length v) r xs e = refl
+goes_on j l at (wants_bound k) r xs e = refl
+goes_on j l at (wants_tour k b) r xs e = refl
+goes_on j l at (wants_count k b) r xs e = refl
 goes_on j l at (wants_cut h m) r xs e = refl
 goes_on j l at (wants_handle h m from t) r xs e = refl
 goes_on j l at (wants_tooth h m from t q qs) r xs e = refl
+goes_on j l at (wants_odd_handle h m from t) r xs e = refl
+goes_on j l at (wants_pair h m from t q qs) r xs e = refl
 goes_on j l at (wants_duals h ps o a b c) r xs e = refl
 
 append_nil : {X : Type 0} (xs : List X) → xs ++ [] ≡ xs
@@ -123,7 +126,7 @@ plain_line n w (Some x) h e =
     let same = ap length s.0 in
     inr (subst (λ v. AllByRecursion InLine v) (sym s.0) (line_plain x (small_if n x h s.1)), omega arith)
 
-none_stops : (j : Tests) (l at : ℕ) (s : Stage) (r : Option Item) (xs : List (Option Item)) → r ≡ None → run j (at + 1) (line_step j at s r) xs ≡ yes l → ⊥
+none_stops : (j : Tests) (l : ℕ × ℕ) (at : ℕ) (s : Stage) (r : Option Item) (xs : List (Option Item)) → r ≡ None → run j (at + 1) (line_step j at s r) xs ≡ yes l.0 l.1 → ⊥
 none_stops j l at s None xs e h = cc
 none_stops j l at s (Some x) xs e h = cc
 
@@ -139,7 +142,7 @@ line_begins : (at read : ℕ) (o : Outcome) → line_on at read o ≡ begins (at
 line_begins at read (go s) = refl
 line_begins at read (refused k from) = refl
 
-pub lines_bytes : (j : Tests) (l at read : ℕ) (o : Outcome) (ls : List (List ℕ)) → j.n < 2 ^ 32 → read + length (text_of ls) ≤ most_bytes → run j at o (map (item_of j.n) ls) ≡ yes l → verdict_at_end (bytes_on j (begins at read o) (text_of ls)) ≡ yes l
+pub lines_bytes : (j : Tests) (l : ℕ × ℕ) (at read : ℕ) (o : Outcome) (ls : List (List ℕ)) → j.n < 2 ^ 32 → read + length (text_of ls) ≤ most_bytes → run j at o (map (item_of j.n) ls) ≡ yes l.0 l.1 → verdict_at_end (bytes_on j (begins at read o) (text_of ls)) ≡ yes l.0 l.1
 lines_bytes j l at read (refused k from) ls h f e = cc
 lines_bytes j l at read (go s) [] h f e = e
 lines_bytes j l at read (go s) (w ∷ ws) h f e = ⊎_elim
@@ -158,13 +161,13 @@ none_or_some [] f = omega arith
 none_or_some (b ∷ bs) f = let g = f (omega arith) in omega arith
 
 pub yes_is_accepted_text : YesIsAcceptedText
-yes_is_accepted_text i bytes l h = (
-  λ e. let k = bytes_lines (verifier i) l start bytes e in
-      let a = (yes_is_accepted i k.lines l h).0 k.verdict in
+yes_is_accepted_text i bytes l b h = (
+  λ e. let k = bytes_lines (verifier i) (l, b) start bytes e in
+      let a = (yes_is_accepted i k.lines l b h).0 k.verdict in
       (none_or_some bytes k.few, a.0, record { text = k.said ∙ ap text_of a.1.lines; form = a.1.form; accepted = a.1.accepted }),
   λ a. let p = a.1 in
-      let e = (yes_is_accepted i (lines p) l h).1 (p, record { lines = refl; form = a.2.form; accepted = a.2.accepted }) in
+      let e = (yes_is_accepted i (lines p) l b h).1 (p, record { lines = refl; form = a.2.form; accepted = a.2.accepted }) in
       let few = a.0 in
       let same = ap length a.2.text in
-      ap (λ x. verdict_at_end (bytes_on (verifier i) (reads start) x)) a.2.text ∙ lines_bytes (verifier i) l 1 0 (go wants_title) (lines p) h (omega arith) e,
+      ap (λ x. verdict_at_end (bytes_on (verifier i) (reads start) x)) a.2.text ∙ lines_bytes (verifier i) (l, b) 1 0 (go wants_title) (lines p) h (omega arith) e,
 )

@@ -1,22 +1,22 @@
 -- the tests decide the definitions
-use Rattle.std.proofs.Common.{◌≡◌, ℕ, ◌+◌, ◌-◌, ◌%◌, ◌<◌, ◌≤◌, Bool, true, false, not, ◌&&◌, List, [], ◌∷◌, length, ℤ, refl, arith}
-use Rattle.std.specs.Prelude.{nat_le, nat_lt, ◌==◌, ◌<ℤ◌}
+use Rattle.std.proofs.Common.{◌≡◌, ℕ, ◌+◌, ◌-◌, ◌%◌, ◌<◌, ◌≤◌, Bool, true, false, not, ◌&&◌, List, [], ◌∷◌, length, ℤ, refl, arith, ◌⊎◌, inl, inr, ⊎_elim}
+use Rattle.std.specs.Prelude.{nat_le, nat_lt, ◌==◌, ◌||◌, ◌<ℤ◌}
 use Rattle.std.specs.Int.Signed.{lt_z}
 use Rattle.std.specs.List.{AllByRecursion}
 use Rattle.std.proofs.lemmas.Int.{ints}
 use Rattle.std.proofs.lemmas.Bool.{and_parts, and_from, eq-eqb, eqb-true, leb-true, le-leb, ltb-true, lt-ltb, not-true}
 use Rattle.tspdef.specs.Sets.{has, RisesFrom, IsProper, meet, meets_any, AreDisjoint, leaves}
-use Rattle.tspdef.specs.Tours.{AreDistinct, IsTour, steps, has_step, last_city, IsCanonical}
-use Rattle.tspdef.specs.Fixed.{AreSteps}
+use Rattle.tspdef.specs.Tours.{AreDistinct, IsTour, steps, has_step, last_city, crosses, IsCanonical}
+use Rattle.tspdef.specs.Fixed.{AreSteps, IsPairBefore, PairsRise, AreRisingPairs}
 use Rattle.tspdef.specs.Instances.{Instance, IsTourOf}
-use Rattle.tspdef.specs.Cuts.{Cut, subtour, comb, IsTooth, IsComb, IsCut}
+use Rattle.tspdef.specs.Cuts.{Cut, subtour, comb, odd, IsTooth, IsComb, IsOdd, IsCut, most_pairs}
 use Rattle.tspdef.specs.Paths.{Condition, fixed, absent, present, two, four, IsClique}
 use Rattle.std.specs.Prelude.{Option, Some, None}
-use Rattle.certdef.specs.Items.{rises, each_below}
+use Rattle.certdef.specs.Items.{rises, each_below, is_before, pairs_rise_from, pairs_rise}
 use Rattle.tspdef.specs.Bounds.{bound, needed}
 use Rattle.certdef.specs.Accepted.{from_zero, cuts_of, closing_of, is_clique}
 use Rattle.verdict.specs.Decided.{IsTourFromOne, ToursAreDecided, StepsAreDecided, ToursOfInstancesAreDecided, CanonicalIsDecided, ToursFromOneAreDecided, ProperIsDecided, CutsAreDecided, CliquesAreDecided, ClosedLeavesAreDecided}
-use Rattle.certdef.specs.Tests.{each_positive, are_distinct, is_tour, are_steps, is_tour_of, is_canonical, is_tour_from_one, is_proper, are_disjoint, are_teeth, is_cut}
+use Rattle.certdef.specs.Tests.{each_positive, are_distinct, is_tour, are_steps, is_tour_of, is_canonical, is_tour_from_one, is_proper, are_disjoint, are_teeth, are_pairs, each_crosses, are_odd_pairs, is_cut}
 
 not_true : (b : Bool) → b ≡ false → not b ≡ true
 not_true true e = cc
@@ -161,16 +161,104 @@ yes_comb n h ts k =
     (and_from (nat_le 3 (length ts)) (are_teeth n h ts && are_disjoint ts) (le-leb 3 (length ts) k.many)
     (and_from (are_teeth n h ts) (are_disjoint ts) (yes_teeth n h ts k.each_tooth) (yes_disjoint ts k.disjoint))))
 
+pairs_yes : (n : ℕ) (ps : List (ℕ × ℕ)) → are_pairs n ps ≡ true → AllByRecursion (λ p. (p.0 < p.1) × (p.1 < n)) ps
+pairs_yes n [] e = tt
+pairs_yes n (p ∷ ps) e =
+    let q = and_parts (nat_lt p.0 p.1 && nat_lt p.1 n) (are_pairs n ps) e in
+    let r = and_parts (nat_lt p.0 p.1) (nat_lt p.1 n) q.0 in
+    ((ltb-true p.0 p.1 r.0, ltb-true p.1 n r.1), pairs_yes n ps q.1)
+
+yes_pairs : (n : ℕ) (ps : List (ℕ × ℕ)) → AllByRecursion (λ p. (p.0 < p.1) × (p.1 < n)) ps → are_pairs n ps ≡ true
+yes_pairs n [] h = refl
+yes_pairs n (p ∷ ps) h =
+    and_from (nat_lt p.0 p.1 && nat_lt p.1 n) (are_pairs n ps) (and_from (nat_lt p.0 p.1) (nat_lt p.1 n) (lt-ltb p.0 p.1 h.0.0) (lt-ltb p.1 n h.0.1)) (yes_pairs n ps h.1)
+
+or_parts : (a b : Bool) → a || b ≡ true → (a ≡ true) ⊎ (b ≡ true)
+or_parts true b e = inl refl
+or_parts false b e = inr e
+
+or_left : (a b : Bool) → a ≡ true → a || b ≡ true
+or_left true b e = refl
+or_left false b e = cc
+
+or_right : (a b : Bool) → b ≡ true → a || b ≡ true
+or_right true b e = refl
+or_right false b e = e
+
+before_yes : (p q : ℕ × ℕ) → is_before p q ≡ true → IsPairBefore p q
+before_yes p q e = ⊎_elim
+    (λ l. inl (ltb-true p.0 q.0 l))
+    (λ r. let t = and_parts (p.0 == q.0) (nat_lt p.1 q.1) r in inr (eqb-true p.0 q.0 t.0, ltb-true p.1 q.1 t.1))
+    (or_parts (nat_lt p.0 q.0) ((p.0 == q.0) && nat_lt p.1 q.1) e)
+
+yes_before : (p q : ℕ × ℕ) → IsPairBefore p q → is_before p q ≡ true
+yes_before p q h = ⊎_elim
+    (λ l. or_left (nat_lt p.0 q.0) ((p.0 == q.0) && nat_lt p.1 q.1) (lt-ltb p.0 q.0 l))
+    (λ r. or_right (nat_lt p.0 q.0) ((p.0 == q.0) && nat_lt p.1 q.1) (and_from (p.0 == q.0) (nat_lt p.1 q.1) (eq-eqb p.0 q.0 r.0) (lt-ltb p.1 q.1 r.1)))
+    h
+
+rise_from_yes : (p : ℕ × ℕ) (qs : List (ℕ × ℕ)) → pairs_rise_from p qs ≡ true → PairsRise p qs
+rise_from_yes p [] e = tt
+rise_from_yes p (q ∷ qs) e = let t = and_parts (is_before p q) (pairs_rise_from q qs) e in (before_yes p q t.0, rise_from_yes q qs t.1)
+
+yes_rise_from : (p : ℕ × ℕ) (qs : List (ℕ × ℕ)) → PairsRise p qs → pairs_rise_from p qs ≡ true
+yes_rise_from p [] h = refl
+yes_rise_from p (q ∷ qs) h = and_from (is_before p q) (pairs_rise_from q qs) (yes_before p q h.0) (yes_rise_from q qs h.1)
+
+rise_yes : (ps : List (ℕ × ℕ)) → pairs_rise ps ≡ true → AreRisingPairs ps
+rise_yes [] e = tt
+rise_yes (p ∷ ps) e = rise_from_yes p ps e
+
+yes_rise : (ps : List (ℕ × ℕ)) → AreRisingPairs ps → pairs_rise ps ≡ true
+yes_rise [] h = refl
+yes_rise (p ∷ ps) h = yes_rise_from p ps h
+
+crosses_yes : (h : List ℕ) (ps : List (ℕ × ℕ)) → each_crosses h ps ≡ true → AllByRecursion (λ p. crosses (has h) p ≡ true) ps
+crosses_yes h [] e = tt
+crosses_yes h (p ∷ ps) e = let t = and_parts (crosses (has h) p) (each_crosses h ps) e in (t.0, crosses_yes h ps t.1)
+
+yes_crosses : (h : List ℕ) (ps : List (ℕ × ℕ)) → AllByRecursion (λ p. crosses (has h) p ≡ true) ps → each_crosses h ps ≡ true
+yes_crosses h [] k = refl
+yes_crosses h (p ∷ ps) k = and_from (crosses (has h) p) (each_crosses h ps) k.0 (yes_crosses h ps k.1)
+
+odd_yes : (n : ℕ) (h : List ℕ) (ps : List (ℕ × ℕ)) → is_proper n h && are_odd_pairs n h ps ≡ true → IsOdd n h ps
+odd_yes n h ps e =
+    let p = and_parts (is_proper n h) (are_odd_pairs n h ps) e in
+    let q = and_parts (length ps % 2 == 1) (nat_le (length ps) most_pairs && (are_pairs n ps && (pairs_rise ps && each_crosses h ps))) p.1 in
+    let r = and_parts (nat_le (length ps) most_pairs) (are_pairs n ps && (pairs_rise ps && each_crosses h ps)) q.1 in
+    let s = and_parts (are_pairs n ps) (pairs_rise ps && each_crosses h ps) r.1 in
+    let t = and_parts (pairs_rise ps) (each_crosses h ps) s.1 in
+    record {
+      proper = proper_yes n h p.0;
+      odd = eqb-true (length ps % 2) 1 q.0;
+      few = leb-true (length ps) most_pairs r.0;
+      below = pairs_yes n ps s.0;
+      rising = rise_yes ps t.0;
+      crossed = crosses_yes h ps t.1;
+    }
+
+yes_odd : (n : ℕ) (h : List ℕ) (ps : List (ℕ × ℕ)) → IsOdd n h ps → is_proper n h && are_odd_pairs n h ps ≡ true
+yes_odd n h ps k =
+    and_from (is_proper n h) (are_odd_pairs n h ps) (yes_proper n h k.proper)
+    (and_from (length ps % 2 == 1) (nat_le (length ps) most_pairs && (are_pairs n ps && (pairs_rise ps && each_crosses h ps))) (eq-eqb (length ps % 2) 1 k.odd)
+    (and_from (nat_le (length ps) most_pairs) (are_pairs n ps && (pairs_rise ps && each_crosses h ps)) (le-leb (length ps) most_pairs k.few)
+    (and_from (are_pairs n ps) (pairs_rise ps && each_crosses h ps) (yes_pairs n ps k.below)
+    (and_from (pairs_rise ps) (each_crosses h ps) (yes_rise ps k.rising) (yes_crosses h ps k.crossed)))))
+
 pub cut_yes : (n : ℕ) (c : Cut) → is_cut n c ≡ true → IsCut n c
 cut_yes n (subtour m s) e = let p = and_parts (m == n) (is_proper n s) e in (eqb-true m n p.0, proper_yes n s p.1)
 cut_yes n (comb m h ts) e =
     let p = and_parts (m == n) (is_proper n h && ((length ts % 2 == 1) && (nat_le 3 (length ts) && (are_teeth n h ts && are_disjoint ts)))) e in
     (eqb-true m n p.0, comb_yes n h ts p.1)
+cut_yes n (odd m h ps) e =
+    let p = and_parts (m == n) (is_proper n h && are_odd_pairs n h ps) e in
+    (eqb-true m n p.0, odd_yes n h ps p.1)
 
 pub yes_cut : (n : ℕ) (c : Cut) → IsCut n c → is_cut n c ≡ true
 yes_cut n (subtour m s) k = and_from (m == n) (is_proper n s) (eq-eqb m n k.0) (yes_proper n s k.1)
 yes_cut n (comb m h ts) k =
     and_from (m == n) (is_proper n h && ((length ts % 2 == 1) && (nat_le 3 (length ts) && (are_teeth n h ts && are_disjoint ts)))) (eq-eqb m n k.0) (yes_comb n h ts k.1)
+yes_cut n (odd m h ps) k = and_from (m == n) (is_proper n h && are_odd_pairs n h ps) (eq-eqb m n k.0) (yes_odd n h ps k.1)
 
 -- ---- conditions and bounds
 
@@ -223,6 +311,6 @@ pub cliques_are_decided : CliquesAreDecided
 cliques_are_decided c = (clique_yes c, yes_clique c)
 
 pub closed_leaves_are_decided : ClosedLeavesAreDecided
-closed_leaves_are_decided i l cs path d =
-    let b = bound i path (closing_of i.n (cuts_of i.n cs) d) in
-    (below_z (needed l) b, z_below (needed l) b)
+closed_leaves_are_decided i b cs path d =
+    let c = bound i path (closing_of i.n (cuts_of i.n cs) d) in
+    (below_z (needed b) c, z_below (needed b) c)

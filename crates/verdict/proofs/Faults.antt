@@ -6,15 +6,15 @@ use Rattle.std.proofs.lemmas.Int.{ints}
 use Rattle.std.proofs.lemmas.Bool.{and_parts, and_from, eq-eqb, leb-true, le-leb, ltb-true, leb-false}
 use Rattle.tspdef.specs.Sets.{RisesFrom, IsProper}
 use Rattle.tspdef.specs.Instances.{Instance, length_in}
-use Rattle.tspdef.specs.Cuts.{subtour, comb}
+use Rattle.tspdef.specs.Cuts.{subtour, comb, odd}
 use Rattle.tspdef.specs.Paths.{Condition, absent, present, two, four, condition_at, is_decided}
 use Rattle.tspdef.specs.Bounds.{bound, needed}
-use Rattle.certdef.specs.Items.{Item, title_line, size_line, length_line, tour_line, cuts_line, subtour_line, comb_line, handle_line, tooth_line, edge_line, clique_line, leaf_line, city_line, cut_line, condition_line, open_line, rises, is_set, in_bounds, fits, longest, line}
-use Rattle.certdef.specs.Proofs.{subtour_cut, comb_cut}
-use Rattle.certdef.specs.Accepted.{from_zero, cuts_of, closing_of, is_clique}
+use Rattle.certdef.specs.Items.{Item, title_line, size_line, length_line, bound_line, tour_line, cuts_line, subtour_line, comb_line, handle_line, tooth_line, odd_line, pair_line, edge_line, clique_line, leaf_line, city_line, cut_line, condition_line, open_line, rises, is_set, in_bounds, fits, longest, line}
+use Rattle.certdef.specs.Proofs.{subtour_cut, comb_cut, odd_cut}
+use Rattle.certdef.specs.Accepted.{from_zero, pair_from_zero, cuts_of, closing_of, is_clique}
 use Rattle.certdef.specs.Tests.{verifier, is_tour_from_one, is_proper, is_cut, closes_leaf}
-use Rattle.certdef.specs.Verdicts.{Head, OpenDuals, Stage, wants_title, wants_size, wants_length, wants_tour, wants_count, wants_cut, wants_handle, wants_tooth, wants_trees, wants_duals, Outcome, go, refused, after, with_cut, cuts_on, teeth_on, duals_on, with_city, with_cut_dual, with_condition, fresh_duals, on_title, on_size, on_length, on_tour, on_count, on_cut, on_handle, on_tooth, on_tree, on_dual, is_end, line_step}
-use Rattle.verdict.specs.Faults.{IsOfForm, comb_with, leaf_with, Fault, not_a_proof, other_size, not_a_tour, wrong_length, set_of_all, not_a_comb, decided_edge, weak_leaf, open_leaf, trailing}
+use Rattle.certdef.specs.Verdicts.{Head, OpenDuals, Stage, wants_title, wants_size, wants_length, wants_bound, wants_tour, wants_count, wants_cut, wants_handle, wants_tooth, wants_odd_handle, wants_pair, wants_trees, wants_duals, Outcome, go, refused, after, may_follow, with_cut, cuts_on, teeth_on, pairs_on, duals_on, with_city, with_cut_dual, with_condition, fresh_duals, on_title, on_size, on_length, on_bound, on_tour, on_count, on_cut, on_handle, on_tooth, on_odd_handle, on_pair, on_tree, on_dual, is_end, line_step}
+use Rattle.verdict.specs.Faults.{IsOfForm, IsTourLine, comb_with, odd_with, leaf_with, Fault, not_a_proof, other_size, not_a_tour, wrong_length, set_of_all, not_a_comb, not_an_odd_cut, decided_edge, weak_leaf, open_leaf, trailing, wrong_bound}
 use Rattle.verdict.proofs.Lines.{rises_length}
 use Rattle.verdict.proofs.Decisions.{tour_from_one_yes, yes_tour_from_one, yes_proper, yes_cut, yes_clique}
 use Rattle.verdict.proofs.Stands.{read_duals, StandsAt, length_push}
@@ -84,29 +84,51 @@ out_of_place : (i : Instance) (m : ℕ) (s : Stage) (x : Option Item) (k at : �
 out_of_place i m s x k at e none r = not_a_proof (record { refusal = cc; line = cc; before_end = e; no_form = none })
 
 title_fault : (i : Instance) (m : ℕ) (x : Item) (k at : ℕ) → on_title m x ≡ refused k at → Fault i wants_title m (Some x) k at
-title_fault i m title_line k at e = cc
+title_fault i m (title_line v) k at e = cc
 title_fault i m x k at e = out_of_place i m wants_title (Some x) k at refl (λ h. h) e
 
-size_fault : (i : Instance) (m : ℕ) (x : Item) (k at : ℕ) → m ≡ 2 → on_size (verifier i) m x ≡ refused k at → Fault i wants_size m (Some x) k at
-size_fault i m (size_line c) k at second e =
-    let f = failed (c == i.n) wants_length 2 m k at e in
+size_fault : (i : Instance) (v m : ℕ) (x : Item) (k at : ℕ) → m ≡ 2 → on_size (verifier i) v m x ≡ refused k at → Fault i (wants_size v) m (Some x) k at
+size_fault i v m (size_line c) k at second e =
+    let f = failed (c == i.n) (wants_length v) 2 m k at e in
     other_size (record { refusal = f.1; line = f.2; second = second; cities = c; says = refl; other = λ same. not_both (c == i.n) f.0 (eq-eqb c i.n same) })
-size_fault i m x k at second e = out_of_place i m wants_size (Some x) k at refl (λ h. h) e
+size_fault i v m x k at second e = out_of_place i m (wants_size v) (Some x) k at refl (λ h. h) e
 
-length_fault : (i : Instance) (m : ℕ) (x : Item) (k at : ℕ) → on_length m x ≡ refused k at → Fault i wants_length m (Some x) k at
-length_fault i m (length_line l) k at e = cc
-length_fault i m x k at e = out_of_place i m wants_length (Some x) k at refl (λ h. h) e
+goes_either : (b : Bool) (s t : Stage) (k at : ℕ) → cond b (go s) (go t) ≡ refused k at → ⊥
+goes_either true s t k at e = cc
+goes_either false s t k at e = cc
 
-tour_fault : (i : Instance) (l m : ℕ) (x : Item) (k at : ℕ) → m ≡ 4 → on_tour (verifier i) l m x ≡ refused k at → Fault i (wants_tour l) m (Some x) k at
-tour_fault i l m (tour_line cs) k at fourth e = ⊎_elim
-    (λ f. not_a_tour (record { refusal = f.1; line = f.2; fourth = fourth; cities = cs; says = refl; none = λ t. not_both (is_tour_from_one i cs) f.0 (yes_tour_from_one i cs t.from_one t.is_tour t.canonical) }))
-    (λ f. wrong_length (record { refusal = f.2; line = f.3; fourth = fourth; long = l; said = refl; cities = cs; says = refl; tour = tour_from_one_yes i cs f.0; other = λ same. not_both (length_in i (from_zero cs) == l) f.1 (eq-eqb (length_in i (from_zero cs)) l same) }))
-    (tour_failed (is_tour_from_one i cs) (length_in i (from_zero cs) == l) (wants_count l) m k at e)
-tour_fault i l m x k at fourth e = out_of_place i m (wants_tour l) (Some x) k at refl (λ h. h) e
+length_fault : (i : Instance) (v m : ℕ) (x : Item) (k at : ℕ) → on_length v m x ≡ refused k at → Fault i (wants_length v) m (Some x) k at
+length_fault i v m (length_line l) k at e = absurd (goes_either (v == 1) (wants_tour l l) (wants_bound l) k at e)
+length_fault i v m x k at e = out_of_place i m (wants_length v) (Some x) k at refl (λ h. h) e
 
-count_fault : (i : Instance) (l m : ℕ) (x : Item) (k at : ℕ) → on_count (verifier i) l m x ≡ refused k at → Fault i (wants_count l) m (Some x) k at
-count_fault i l m (cuts_line c) k at e = cc
-count_fault i l m x k at e = out_of_place i m (wants_count l) (Some x) k at refl (λ h. h) e
+bound_fault : (i : Instance) (l m : ℕ) (x : Item) (k at : ℕ) → m ≡ 4 → on_bound (verifier i) l m x ≡ refused k at → Fault i (wants_bound l) m (Some x) k at
+bound_fault i l m (bound_line b) k at fourth e =
+    let f = failed (nat_lt b l) (wants_tour l b) 11 m k at e in
+    let many = leb-false (suc b) l f.0 in
+    wrong_bound (record { refusal = f.1; line = f.2; fourth = fourth; long = l; said = refl; told = b; says = refl; great = omega arith })
+bound_fault i l m x k at fourth e = out_of_place i m (wants_bound l) (Some x) k at refl (λ h. h) e
+
+tour_fault : (i : Instance) (l b m : ℕ) (x : Item) (k at : ℕ) → IsTourLine l b m → on_tour (verifier i) l b m x ≡ refused k at → Fault i (wants_tour l b) m (Some x) k at
+tour_fault i l b m (tour_line cs) k at place e = ⊎_elim
+    (λ f. not_a_tour (record { refusal = f.1; line = f.2; long = l; bound = b; said = refl; place = place; cities = cs; says = refl; none = λ t. not_both (is_tour_from_one i cs) f.0 (yes_tour_from_one i cs t.from_one t.is_tour t.canonical) }))
+    (λ f. wrong_length (record {
+      refusal = f.2;
+      line = f.3;
+      long = l;
+      bound = b;
+      said = refl;
+      place = place;
+      cities = cs;
+      says = refl;
+      tour = tour_from_one_yes i cs f.0;
+      other = λ same. not_both (length_in i (from_zero cs) == l) f.1 (eq-eqb (length_in i (from_zero cs)) l same);
+    }))
+    (tour_failed (is_tour_from_one i cs) (length_in i (from_zero cs) == l) (wants_count l b) m k at e)
+tour_fault i l b m x k at place e = out_of_place i m (wants_tour l b) (Some x) k at refl (λ h. h) e
+
+count_fault : (i : Instance) (l b m : ℕ) (x : Item) (k at : ℕ) → on_count (verifier i) l b m x ≡ refused k at → Fault i (wants_count l b) m (Some x) k at
+count_fault i l b m (cuts_line c) k at e = cc
+count_fault i l b m x k at e = out_of_place i m (wants_count l b) (Some x) k at refl (λ h. h) e
 
 cut_fault : (i : Instance) (h : Head) (c m : ℕ) (x : Item) (k at : ℕ) → fits i.n x ≡ true → on_cut (verifier i) h c m x ≡ refused k at → Fault i (wants_cut h c) m (Some x) k at
 cut_fault i h c m (subtour_line s) k at are e =
@@ -114,6 +136,7 @@ cut_fault i h c m (subtour_line s) k at are e =
     let none : IsProper i.n (from_zero s) → ⊥ = λ p. not_both (is_cut i.n (subtour i.n (from_zero s))) f.0 (yes_cut i.n (subtour i.n (from_zero s)) (refl, p)) in
     set_of_all (record { refusal = f.1; line = f.2; set = s; says = inl refl; all = whole_set i.n s (set_of i.n (subtour_line s) are) none })
 cut_fault i h c m (comb_line t) k at are e = cc
+cut_fault i h c m (odd_line t) k at are e = cc
 cut_fault i h c m x k at are e = out_of_place i m (wants_cut h c) (Some x) k at refl (λ g. g) e
 
 -- a comb whose last line is read
@@ -145,6 +168,38 @@ tooth_fault i h c from t s ts m (tooth_line q) k at d some e =
     comb_fault i (wants_tooth h c from t s ts) m (Some (tooth_line q)) k at h c from t s (ts ++ q ∷ []) refl (omega arith) some e
 tooth_fault i h c from t s ts m x k at d some e = out_of_place i m (wants_tooth h c from t s ts) (Some x) k at refl (λ g. g) e
 
+-- an odd cut whose last line is read
+odd_fault : (i : Instance) (s : Stage) (m : ℕ) (x : Option Item) (k at : ℕ) (h : Head) (c from t : ℕ) (handle : List ℕ) (pairs : List (ℕ × ℕ)) → odd_with s x ≡ Some (from, handle, pairs) → m ≡ from + 1 + length pairs → 1 ≤ from
+    → pairs_on (verifier i) from h c t handle pairs ≡ refused k at → Fault i s m x k at
+odd_fault i s m x k at h c from zero handle pairs w last some e =
+    let z = odd i.n (from_zero handle) (map pair_from_zero pairs) in
+    let f = failed (is_cut i.n z) (cuts_on (verifier i) (with_cut h (odd_cut handle pairs)) c) 5 from k at e in
+    let same = f.2 in
+    not_an_odd_cut (record {
+      refusal = f.1;
+      handle = handle;
+      pairs = pairs;
+      says = w ∙ ap (λ (a : ℕ). Some (a, handle, pairs)) (sym same);
+      begins = omega arith;
+      last = omega arith;
+      none = λ p. not_both (is_cut i.n z) f.0 (yes_cut i.n z (refl, p));
+    })
+odd_fault i s m x k at h c from (suc t) handle pairs w last some e = cc
+
+odd_handle_fault : (i : Instance) (h : Head) (c from t m : ℕ) (x : Item) (k at : ℕ) → m ≡ from + 1 → 1 ≤ from → on_odd_handle (verifier i) h c from t m x ≡ refused k at → Fault i (wants_odd_handle h c from t) m (Some x) k at
+odd_handle_fault i h c from t m (handle_line s) k at d some e = odd_fault i (wants_odd_handle h c from t) m (Some (handle_line s)) k at h c from t s [] refl (omega arith) some e
+odd_handle_fault i h c from t m x k at d some e = out_of_place i m (wants_odd_handle h c from t) (Some x) k at refl (λ g. g) e
+
+pair_fault : (i : Instance) (h : Head) (c from t : ℕ) (s : List ℕ) (ps : List (ℕ × ℕ)) (m : ℕ) (x : Item) (k at : ℕ) → m ≡ from + 2 + length ps → 1 ≤ from → on_pair (verifier i) h c from t s ps m x ≡ refused k at
+    → Fault i (wants_pair h c from t s ps) m (Some x) k at
+pair_fault i h c from t s ps m (pair_line u v) k at d some e =
+    let more = length_push ps (u, v) in
+    ⊎_elim
+    (λ f. out_of_place i m (wants_pair h c from t s ps) (Some (pair_line u v)) k at refl (λ g. not_both (may_follow ps (u, v)) f.0 g) f.1)
+    (λ f. odd_fault i (wants_pair h c from t s ps) m (Some (pair_line u v)) k at h c from t s (ps ++ (u, v) ∷ []) refl (omega arith) some f.1)
+    (in_turn (may_follow ps (u, v)) (pairs_on (verifier i) from h c t s (ps ++ (u, v) ∷ [])) 1 m k at e)
+pair_fault i h c from t s ps m x k at d some e = out_of_place i m (wants_pair h c from t s ps) (Some x) k at refl (λ g. g) e
+
 below : (a b : ℤ) → lt_z a b ≡ false → b ≤ℤ a
 below a b e = grind (arith, ints)
 
@@ -152,7 +207,7 @@ below a b e = grind (arith, ints)
 leaf_fault : (i : Instance) (s : Stage) (m : ℕ) (x : Option Item) (k at : ℕ) (h : Head) (ps : List (List Condition)) (o : OpenDuals) (a b c : ℕ) → leaf_with s m x ≡ Some (h, o) → m ≡ o.at + read_duals o → 1 ≤ o.at
     → duals_on (verifier i) h ps o a b c ≡ refused k at → Fault i s m x k at
 leaf_fault i s m x k at h ps o zero zero zero w last some e =
-    let f = failed (closes_leaf i h.long h.cuts o.path o.duals) (wants_trees h ps) 7 o.at k at e in
+    let f = failed (closes_leaf i h.bound h.cuts o.path o.duals) (wants_trees h ps) 7 o.at k at e in
     let same = f.2 in
     weak_leaf (record {
       refusal = f.1;
@@ -162,7 +217,7 @@ leaf_fault i s m x k at h ps o zero zero zero w last some e =
       line = same;
       begins = omega arith;
       last = omega arith;
-      weak = below (needed h.long) (bound i o.path (closing_of i.n (cuts_of i.n h.cuts) o.duals)) f.0;
+      weak = below (needed h.bound) (bound i o.path (closing_of i.n (cuts_of i.n h.cuts) o.duals)) f.0;
     })
 leaf_fault i s m x k at h ps o (suc a) b c w last some e = cc
 leaf_fault i s m x k at h ps o zero (suc b) c w last some e = cc
@@ -214,13 +269,16 @@ none_fault i s m k at false d e = out_of_place i m s None k at d (λ h. h) e
 pub fault : (i : Instance) (s : Stage) (m : ℕ) (x : Option Item) (k at : ℕ) → ((y : Item) → x ≡ Some y → fits i.n y ≡ true) → StandsAt s m → line_step (verifier i) m s x ≡ refused k at → Fault i s m x k at
 fault i s m None k at are st e = none_fault i s m k at (is_end s) refl e
 fault i wants_title m (Some x) k at are st e = title_fault i m x k at e
-fault i wants_size m (Some x) k at are st e = size_fault i m x k at st e
-fault i wants_length m (Some x) k at are st e = length_fault i m x k at e
-fault i (wants_tour l) m (Some x) k at are st e = tour_fault i l m x k at st e
-fault i (wants_count l) m (Some x) k at are st e = count_fault i l m x k at e
+fault i (wants_size v) m (Some x) k at are st e = size_fault i v m x k at st e
+fault i (wants_length v) m (Some x) k at are st e = length_fault i v m x k at e
+fault i (wants_bound l) m (Some x) k at are st e = bound_fault i l m x k at st e
+fault i (wants_tour l b) m (Some x) k at are st e = tour_fault i l b m x k at st e
+fault i (wants_count l b) m (Some x) k at are st e = count_fault i l b m x k at e
 fault i (wants_cut h c) m (Some x) k at are st e = cut_fault i h c m x k at (are x refl) e
 fault i (wants_handle h c from t) m (Some x) k at are st e = handle_fault i h c from t m x k at st.0 st.1 e
 fault i (wants_tooth h c from t s ts) m (Some x) k at are st e = tooth_fault i h c from t s ts m x k at st.0 st.1 e
+fault i (wants_odd_handle h c from t) m (Some x) k at are st e = odd_handle_fault i h c from t m x k at st.0 st.1 e
+fault i (wants_pair h c from t s ps) m (Some x) k at are st e = pair_fault i h c from t s ps m x k at st.0 st.1 e
 fault i (wants_trees h []) m (Some x) k at are st e = trailing (record { refusal = cc; line = cc; behind = refl })
 fault i (wants_trees h (p ∷ ps)) m (Some x) k at are st e = tree_fault i h p ps m x k at st (are x refl) e
 fault i (wants_duals h ps o a b c) m (Some x) k at are st e = dual_fault i h ps o a b c m x k at st.0 st.1 e
@@ -229,17 +287,20 @@ fault i (wants_duals h ps o a b c) m (Some x) k at are st e = dual_fault i h ps 
 
 stands_some : (s : Stage) (m : ℕ) → StandsAt s m → 1 ≤ m
 stands_some wants_title m e = omega arith
-stands_some wants_size m e = omega arith
-stands_some wants_length m e = omega arith
-stands_some (wants_tour l) m e = omega arith
-stands_some (wants_count l) m e = omega arith
+stands_some (wants_size v) m e = omega arith
+stands_some (wants_length v) m e = omega arith
+stands_some (wants_bound l) m e = omega arith
+stands_some (wants_tour l b) m e = omega arith
+stands_some (wants_count l b) m e = e
 stands_some (wants_cut h c) m e = e
 stands_some (wants_handle h c from t) m e = let f = e.0 in omega arith
 stands_some (wants_tooth h c from t s ts) m e = let f = e.0 in omega arith
+stands_some (wants_odd_handle h c from t) m e = let f = e.0 in omega arith
+stands_some (wants_pair h c from t s ps) m e = let f = e.0 in omega arith
 stands_some (wants_trees h ps) m e = e
 stands_some (wants_duals h ps o a b c) m e = let f = e.0 in omega arith
 
--- a fault is told at its own line, but for a comb and a leaf, which are told at their first
+-- a fault is told at its own line, but for a comb, an odd cut and a leaf, which are told at their first
 pub record IsPlaced (m k at : ℕ) : Type 0 where
   pub begins : 1 ≤ at
   pub ends : at ≤ m
@@ -255,7 +316,9 @@ placed i s m x k at st (not_a_tour f) = at_own_line m k at (stands_some s m st) 
 placed i s m x k at st (wrong_length f) = at_own_line m k at (stands_some s m st) f.line
 placed i s m x k at st (set_of_all f) = at_own_line m k at (stands_some s m st) f.line
 placed i s m x k at st (not_a_comb f) = let l = f.last in record { begins = f.begins; ends = omega arith; line = inr (inl f.refusal) }
+placed i s m x k at st (not_an_odd_cut f) = let l = f.last in record { begins = f.begins; ends = omega arith; line = inr (inl f.refusal) }
 placed i s m x k at st (decided_edge f) = at_own_line m k at (stands_some s m st) f.line
 placed i s m x k at st (weak_leaf f) = let l = f.last in record { begins = f.begins; ends = omega arith; line = inr (inr f.refusal) }
 placed i s m x k at st (open_leaf f) = at_own_line m k at (stands_some s m st) f.line
 placed i s m x k at st (trailing f) = at_own_line m k at (stands_some s m st) f.line
+placed i s m x k at st (wrong_bound f) = at_own_line m k at (stands_some s m st) f.line

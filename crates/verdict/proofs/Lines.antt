@@ -14,7 +14,7 @@ use Rattle.std.proofs.lemmas.Bool.Decides.{nat_tests}
 use Rattle.std.proofs.lemmas.List.Elements.{All-from_recursion}
 use Rattle.std.proofs.lemmas.List.Splits.{slice_split_none, slice_split_at}
 use Rattle.std.proofs.lemmas.Slice.Eq.{bytes_eq-Decides}
-use Rattle.certdef.specs.Items.{Item, title_line, size_line, length_line, tour_line, cuts_line, subtour_line, comb_line, handle_line, tooth_line, edge_line, clique_line, leaf_line, city_line, cut_line, condition_line, open_line, set_words, words, line, rises, each_below, is_set, is_dual, in_bounds, fits, value, values, only_item, item_of, longest}
+use Rattle.certdef.specs.Items.{Item, title_line, size_line, length_line, bound_line, tour_line, cuts_line, subtour_line, comb_line, handle_line, tooth_line, odd_line, pair_line, edge_line, clique_line, leaf_line, city_line, cut_line, condition_line, open_line, set_words, words, line, rises, each_below, is_set, is_dual, in_bounds, fits, value, values, only_item, item_of, longest}
 use Rattle.verdict.specs.Laws.{LinesAreExact}
 
 -- ---- words that fit machine numbers
@@ -32,15 +32,18 @@ IsSmallSet s = (length s < 2 ^ 64) × AreSmall s
 
 -- each number of the item is below 2 ^ 64
 abbrev pub Small : Item → Type 0
-Small title_line = Unit {0}
+Small (title_line v) = v < 2 ^ 64
 Small (size_line n) = n < 2 ^ 64
 Small (length_line n) = n < 2 ^ 64
+Small (bound_line n) = n < 2 ^ 64
 Small (tour_line cs) = AreSmall cs
 Small (cuts_line n) = n < 2 ^ 64
 Small (subtour_line s) = IsSmallSet s
 Small (comb_line n) = n < 2 ^ 64
 Small (handle_line s) = IsSmallSet s
 Small (tooth_line s) = IsSmallSet s
+Small (odd_line n) = n < 2 ^ 64
+Small (pair_line u v) = (u < 2 ^ 64) × (v < 2 ^ 64)
 Small (edge_line u v) = (u < 2 ^ 64) × (v < 2 ^ 64)
 Small (clique_line s) = IsSmallSet s
 Small (leaf_line a b c) = (a < 2 ^ 64) × (b < 2 ^ 64) × (c < 2 ^ 64)
@@ -152,15 +155,23 @@ i64_small (pos n) h = h
 i64_small (negsuc n) h = omega arith
 
 pub small : (n : ℕ) (i : Item) → n < 2 ^ 32 → in_bounds n i ≡ true → Small i
-small n title_line h e = tt
+small n (title_line v) h e = let a = leb-true v 2 (and_parts (nat_lt 0 v) (nat_le v 2) e).1 in omega arith
 small n (size_line m) h e = let a = ltb-true m (2 ^ 32) e in omega arith
 small n (length_line l) h e = let a = leb-true l (2 ^ 42) e in omega arith
+small n (bound_line b) h e = let a = leb-true b (2 ^ 42) e in omega arith
 small n (tour_line cs) h e = below_small cs (and_parts (length cs == n) (each_below (10 ^ 10) cs) e).1
 small n (cuts_line k) h e = let a = ltb-true k (2 ^ 32) e in omega arith
 small n (subtour_line s) h e = set_small n s h e
 small n (comb_line t) h e = let a = leb-true t 2000 e in omega arith
 small n (handle_line s) h e = set_small n s h e
 small n (tooth_line s) h e = set_small n s h e
+small n (odd_line t) h e = let a = leb-true t 4095 (and_parts (nat_lt 0 t) (nat_le t 4095) e).1 in omega arith
+small n (pair_line u v) h e =
+    let a = and_parts (nat_lt 0 u) (nat_lt u v && nat_le v n) e in
+    let b = and_parts (nat_lt u v) (nat_le v n) a.1 in
+    let c = ltb-true u v b.0 in
+    let d = leb-true v n b.1 in
+    (omega arith, omega arith)
 small n (edge_line u v) h e =
     let a = and_parts (nat_lt 0 u) (nat_lt u v && nat_le v n) e in
     let b = and_parts (nat_lt u v) (nat_le v n) a.1 in
@@ -201,15 +212,18 @@ set_value : (s : List ℕ) → IsSmallSet s → values (map decimal s) ≡ s
 set_value s h = values_decimals s h.1
 
 pub item_words : (i : Item) → Small i → AreWords (words i)
-item_words title_line h = ((letter 84 (omega arith) (omega arith), (letter 83 (omega arith) (omega arith), (letter 80 (omega arith) (omega arith), (letter 67 (omega arith) (omega arith), (letter 69 (omega arith) (omega arith), (letter 82 (omega arith) (omega arith), (letter 84 (omega arith) (omega arith), tt))))))), ((letter 49 (omega arith) (omega arith), tt), tt))
+item_words (title_line m) h = ((letter 84 (omega arith) (omega arith), (letter 83 (omega arith) (omega arith), (letter 80 (omega arith) (omega arith), (letter 67 (omega arith) (omega arith), (letter 69 (omega arith) (omega arith), (letter 82 (omega arith) (omega arith), (letter 84 (omega arith) (omega arith), tt))))))), (decimal_word m h, tt))
 item_words (size_line m) h = ((letter 78 (omega arith) (omega arith), tt), (decimal_word m h, tt))
 item_words (length_line m) h = ((letter 76 (omega arith) (omega arith), (letter 69 (omega arith) (omega arith), (letter 78 (omega arith) (omega arith), (letter 71 (omega arith) (omega arith), (letter 84 (omega arith) (omega arith), (letter 72 (omega arith) (omega arith), tt)))))), (decimal_word m h, tt))
+item_words (bound_line m) h = ((letter 66 (omega arith) (omega arith), (letter 79 (omega arith) (omega arith), (letter 85 (omega arith) (omega arith), (letter 78 (omega arith) (omega arith), (letter 68 (omega arith) (omega arith), tt))))), (decimal_word m h, tt))
 item_words (tour_line cs) h = ((letter 84 (omega arith) (omega arith), (letter 79 (omega arith) (omega arith), (letter 85 (omega arith) (omega arith), (letter 82 (omega arith) (omega arith), tt)))), (decimals_word cs h))
 item_words (cuts_line m) h = ((letter 67 (omega arith) (omega arith), (letter 85 (omega arith) (omega arith), (letter 84 (omega arith) (omega arith), (letter 83 (omega arith) (omega arith), tt)))), (decimal_word m h, tt))
 item_words (subtour_line s) h = ((letter 83 (omega arith) (omega arith), tt), (set_words_are s h))
 item_words (comb_line m) h = ((letter 67 (omega arith) (omega arith), tt), (decimal_word m h, tt))
 item_words (handle_line s) h = ((letter 72 (omega arith) (omega arith), tt), (set_words_are s h))
 item_words (tooth_line s) h = ((letter 84 (omega arith) (omega arith), tt), (set_words_are s h))
+item_words (odd_line m) h = ((letter 66 (omega arith) (omega arith), tt), (decimal_word m h, tt))
+item_words (pair_line u v) h = ((letter 70 (omega arith) (omega arith), tt), (decimal_word u h.0, (decimal_word v h.1, tt)))
 item_words (edge_line u v) h = ((letter 69 (omega arith) (omega arith), tt), (decimal_word u h.0, (decimal_word v h.1, tt)))
 item_words (clique_line s) h = ((letter 75 (omega arith) (omega arith), tt), (set_words_are s h))
 item_words (leaf_line a b c) h = ((letter 76 (omega arith) (omega arith), tt), (decimal_word a h.0, (decimal_word b h.1, (decimal_word c h.2, tt))))
@@ -219,15 +233,18 @@ item_words (condition_line u v) h = ((letter 90 (omega arith) (omega arith), tt)
 item_words open_line h = ((letter 79 (omega arith) (omega arith), tt), tt)
 
 pub split_line : (i : Item) → Small i → slice_split (λ b. eqb b 32) (line i) ≡ words i
-split_line title_line h = let k = item_words title_line h in split_joined (codes "TSPCERT") (codes "1" ∷ []) k.0 k.1
+split_line (title_line m) h = let k = item_words (title_line m) h in split_joined (codes "TSPCERT") (decimal m ∷ []) k.0 k.1
 split_line (size_line m) h = let k = item_words (size_line m) h in split_joined (codes "N") (decimal m ∷ []) k.0 k.1
 split_line (length_line m) h = let k = item_words (length_line m) h in split_joined (codes "LENGTH") (decimal m ∷ []) k.0 k.1
+split_line (bound_line m) h = let k = item_words (bound_line m) h in split_joined (codes "BOUND") (decimal m ∷ []) k.0 k.1
 split_line (tour_line cs) h = let k = item_words (tour_line cs) h in split_joined (codes "TOUR") (map decimal cs) k.0 k.1
 split_line (cuts_line m) h = let k = item_words (cuts_line m) h in split_joined (codes "CUTS") (decimal m ∷ []) k.0 k.1
 split_line (subtour_line s) h = let k = item_words (subtour_line s) h in split_joined (codes "S") (set_words s) k.0 k.1
 split_line (comb_line m) h = let k = item_words (comb_line m) h in split_joined (codes "C") (decimal m ∷ []) k.0 k.1
 split_line (handle_line s) h = let k = item_words (handle_line s) h in split_joined (codes "H") (set_words s) k.0 k.1
 split_line (tooth_line s) h = let k = item_words (tooth_line s) h in split_joined (codes "T") (set_words s) k.0 k.1
+split_line (odd_line m) h = let k = item_words (odd_line m) h in split_joined (codes "B") (decimal m ∷ []) k.0 k.1
+split_line (pair_line u v) h = let k = item_words (pair_line u v) h in split_joined (codes "F") (decimal u ∷ decimal v ∷ []) k.0 k.1
 split_line (edge_line u v) h = let k = item_words (edge_line u v) h in split_joined (codes "E") (decimal u ∷ decimal v ∷ []) k.0 k.1
 split_line (clique_line s) h = let k = item_words (clique_line s) h in split_joined (codes "K") (set_words s) k.0 k.1
 split_line (leaf_line a b c) h = let k = item_words (leaf_line a b c) h in split_joined (codes "L") (decimal a ∷ decimal b ∷ decimal c ∷ []) k.0 k.1
@@ -265,15 +282,18 @@ line_ascii i h = IsAscii-from_all (line i) (All-from_recursion (λ b. b < 128) (
 
 pub only_words : (i : Item) → Small i → only_item (get_or (words i) 0 []) (drop 1 (words i)) ≡ i
 unfolding only_item
-only_words title_line h = refl
+only_words (title_line m) h = ap title_line (value_decimal m h)
 only_words (size_line m) h = ap size_line (value_decimal m h)
 only_words (length_line m) h = ap length_line (value_decimal m h)
+only_words (bound_line m) h = ap bound_line (value_decimal m h)
 only_words (tour_line cs) h = ap tour_line (values_decimals cs h)
 only_words (cuts_line m) h = ap cuts_line (value_decimal m h)
 only_words (subtour_line s) h = ap subtour_line (set_value s h)
 only_words (comb_line m) h = ap comb_line (value_decimal m h)
 only_words (handle_line s) h = ap handle_line (set_value s h)
 only_words (tooth_line s) h = ap tooth_line (set_value s h)
+only_words (odd_line m) h = ap odd_line (value_decimal m h)
+only_words (pair_line u v) h = ap (λ r. pair_line r (value (decimal v))) (value_decimal u h.0) ∙ ap (pair_line u) (value_decimal v h.1)
 only_words (edge_line u v) h = ap (λ r. edge_line r (value (decimal v))) (value_decimal u h.0) ∙ ap (edge_line u) (value_decimal v h.1)
 only_words (clique_line s) h = ap clique_line (set_value s h)
 only_words (leaf_line a b c) h = ap (λ r. leaf_line r (value (decimal b)) (value (decimal c))) (value_decimal a h.0) ∙ ap (λ r. leaf_line a r (value (decimal c))) (value_decimal b h.1) ∙ ap (leaf_line a b) (value_decimal c h.2)

@@ -5,10 +5,10 @@ use Rattle.std.proofs.lemmas.Bool.{and_parts, leb-true, leb-false, eqb-true}
 use Rattle.tspdef.specs.Instances.{Instance}
 use Rattle.certdef.specs.Items.{Item, line, longest, in_bounds, fits, item_of}
 use Rattle.certdef.specs.Tests.{Tests, verifier}
-use Rattle.certdef.specs.Verdicts.{Stage, wants_title, wants_size, wants_length, wants_tour, wants_count, wants_cut, wants_handle, wants_tooth, wants_trees, wants_duals, yes, no, Outcome, go, refused, line_step, is_end, at_end}
+use Rattle.certdef.specs.Verdicts.{Stage, wants_title, wants_size, wants_length, wants_bound, wants_tour, wants_count, wants_cut, wants_handle, wants_tooth, wants_odd_handle, wants_pair, wants_trees, wants_duals, yes, no, Outcome, go, refused, line_step, is_end, at_end}
 use Rattle.certdef.specs.Bytes.{Reading, Read, reads, stops, start, line_on, byte_on, bytes_on, end_of, verdict_at_end, verdict}
 use Rattle.certdef.specs.Accepted.{IsAcceptedText, most_bytes}
-use Rattle.verdict.specs.Faults.{Fault, not_a_proof, other_size, not_a_tour, wrong_length, set_of_all, not_a_comb, decided_edge, weak_leaf, open_leaf, trailing}
+use Rattle.verdict.specs.Faults.{Fault, not_a_proof, other_size, not_a_tour, wrong_length, set_of_all, not_a_comb, not_an_odd_cut, decided_edge, weak_leaf, open_leaf, trailing, wrong_bound}
 use Rattle.verdict.specs.Refusals.{first_lines, line_behind, ended_lines, NothingIsRefused, IsRefusedFrom, IsTold, EndsEarly, IsTooLong, RefusalsAreOfTheFront, TrailingIsBehindAccepted}
 use Rattle.verdict.proofs.Lines.{item_said, no_item}
 use Rattle.verdict.proofs.CutSteps.{append_nil}
@@ -118,13 +118,16 @@ end_step : (j : Tests) (at : ℕ) (s : Stage) (x : Option Item) → is_end s ≡
 end_step j at (wants_trees h []) None e = refl
 end_step j at (wants_trees h []) (Some x) e = refl
 end_step j at wants_title x e = cc
-end_step j at wants_size x e = cc
-end_step j at wants_length x e = cc
-end_step j at (wants_tour l) x e = cc
-end_step j at (wants_count l) x e = cc
+end_step j at (wants_size v) x e = cc
+end_step j at (wants_length v) x e = cc
+end_step j at (wants_bound l) x e = cc
+end_step j at (wants_tour l b) x e = cc
+end_step j at (wants_count l b) x e = cc
 end_step j at (wants_cut h c) x e = cc
 end_step j at (wants_handle h c from t) x e = cc
 end_step j at (wants_tooth h c from t s ts) x e = cc
+end_step j at (wants_odd_handle h c from t) x e = cc
+end_step j at (wants_pair h c from t s ps) x e = cc
 end_step j at (wants_trees h (p ∷ ps)) x e = cc
 end_step j at (wants_duals h ps o a b c) x e = cc
 
@@ -316,12 +319,12 @@ pub record Goes (r : Reading) (bs : List ℕ) (q : Reading) : Type 0 where
   pub number : q.at ≡ r.at + ended_lines bs
   pub stands : StandsAt r.stage r.at → StandsAt q.stage q.at
 
-line_goes : (j : Tests) (r q : Reading) (o : Outcome) → line_step j r.at r.stage (item_of j.n r.begun) ≡ o → line_on r.at r.read o ≡ reads q → (q.at ≡ r.at + 1) × (StandsAt r.stage r.at → StandsAt q.stage q.at)
-line_goes j r q (refused k from) s e = cc
-line_goes j r q (go t) s e =
+line_goes : (i : Instance) (r q : Reading) (o : Outcome) → line_step (verifier i) r.at r.stage (item_of i.n r.begun) ≡ o → line_on r.at r.read o ≡ reads q → (q.at ≡ r.at + 1) × (StandsAt r.stage r.at → StandsAt q.stage q.at)
+line_goes i r q (refused k from) s e = cc
+line_goes i r q (go t) s e =
     let same = is_reads (record { at = r.at + 1; read = r.read + 1; stage = t; begun = [] }) q e in (
       sym (ap (λ (u : Reading). u.at) same),
-      λ st. subst (λ (u : Reading). StandsAt u.stage u.at) same (subst (λ o. StandsAfter o (r.at + 1)) s (step_stands j r.stage r.at (item_of j.n r.begun) st)),
+      λ st. subst (λ (u : Reading). StandsAt u.stage u.at) same (subst (λ o. StandsAfter o (r.at + 1)) s (step_stands i r.stage r.at (item_of i.n r.begun) st)),
     )
 
 room_goes : (r q : Reading) (b : ℕ) (g : Bool) → cond g (reads (record { at = r.at; read = r.read + 1; stage = r.stage; begun = r.begun ++ b ∷ [] })) (stops 1 r.at) ≡ reads q → (q.at ≡ r.at) × (StandsAt r.stage r.at → StandsAt q.stage q.at)
@@ -330,60 +333,63 @@ room_goes r q b true e =
     (sym (ap (λ (u : Reading). u.at) same), λ st. subst (λ (u : Reading). StandsAt u.stage u.at) same st)
 room_goes r q b false e = cc
 
-byte_goes : (j : Tests) (r q : Reading) (b : ℕ) (d e f : Bool) → nat_le most_bytes r.read ≡ d → is_end r.stage ≡ e → (b == 10) ≡ f → byte_on j r b ≡ reads q → (q.at ≡ r.at + cond f 1 0) × (StandsAt r.stage r.at → StandsAt q.stage q.at)
-byte_goes j r q b true e f p s t h = let past = byte_past j r b p in cc
-byte_goes j r q b false true f p s t h = let past = byte_behind j r b p s in cc
-byte_goes j r q b false false true p s t h =
-    line_goes j r q (line_step j r.at r.stage (item_of j.n r.begun)) refl
-    (sym (byte_plain j r b p s ∙ ap (λ x. cond x (line_on r.at r.read (line_step j r.at r.stage (item_of j.n r.begun)))
+byte_goes : (i : Instance) (r q : Reading) (b : ℕ) (d e f : Bool) → nat_le most_bytes r.read ≡ d → is_end r.stage ≡ e → (b == 10) ≡ f → byte_on (verifier i) r b ≡ reads q → (q.at ≡ r.at + cond f 1 0) × (StandsAt r.stage r.at → StandsAt q.stage q.at)
+byte_goes i r q b true e f p s t h = let past = byte_past (verifier i) r b p in cc
+byte_goes i r q b false true f p s t h = let past = byte_behind (verifier i) r b p s in cc
+byte_goes i r q b false false true p s t h =
+    line_goes i r q (line_step (verifier i) r.at r.stage (item_of i.n r.begun)) refl
+    (sym (byte_plain (verifier i) r b p s ∙ ap (λ x. cond x (line_on r.at r.read (line_step (verifier i) r.at r.stage (item_of i.n r.begun)))
     (cond (nat_lt (length r.begun) longest) (reads (record { at = r.at; read = r.read + 1; stage = r.stage; begun = r.begun ++ b ∷ [] })) (stops 1 r.at))) t) ∙ h)
-byte_goes j r q b false false false p s t h =
-    let g = room_goes r q b (nat_lt (length r.begun) longest) (sym (byte_of_line j r b (nat_lt (length r.begun) longest) p s t refl) ∙ h) in
+byte_goes i r q b false false false p s t h =
+    let g = room_goes r q b (nat_lt (length r.begun) longest) (sym (byte_of_line (verifier i) r b (nat_lt (length r.begun) longest) p s t refl) ∙ h) in
     let same = g.0 in
     (omega arith, g.1)
 
-through : (j : Tests) (r t : Reading) (b : ℕ) (bs : List ℕ) (x : Read) → byte_on j r b ≡ x → ((q : Reading) → bytes_on j (reads q) bs ≡ reads t → Goes q bs t) → bytes_on j x bs ≡ reads t → Goes r (b ∷ bs) t
-through j r t b bs (stops k at) e more h = cc
-through j r t b bs (reads q) e more h =
-    let g = byte_goes j r q b (nat_le most_bytes r.read) (is_end r.stage) (b == 10) refl refl refl e in
+through : (i : Instance) (r t : Reading) (b : ℕ) (bs : List ℕ) (x : Read) → byte_on (verifier i) r b ≡ x → ((q : Reading) → bytes_on (verifier i) (reads q) bs ≡ reads t → Goes q bs t) → bytes_on (verifier i) x bs ≡ reads t → Goes r (b ∷ bs) t
+through i r t b bs (stops k at) e more h = cc
+through i r t b bs (reads q) e more h =
+    let g = byte_goes i r q b (nat_le most_bytes r.read) (is_end r.stage) (b == 10) refl refl refl e in
     let w = more q h in
     let here = g.0 in
     let there = w.number in
     record { number = omega arith; stands = λ st. w.stands (g.1 st) }
 
-pub goes : (j : Tests) (r t : Reading) (bs : List ℕ) → bytes_on j (reads r) bs ≡ reads t → Goes r bs t
-goes j r t [] e =
+pub goes : (i : Instance) (r t : Reading) (bs : List ℕ) → bytes_on (verifier i) (reads r) bs ≡ reads t → Goes r bs t
+goes i r t [] e =
     let same = is_reads r t e in
     let at = ap (λ (u : Reading). u.at) same in
     record { number = omega arith; stands = λ st. subst (λ (u : Reading). StandsAt u.stage u.at) same st }
-goes j r t (b ∷ bs) e = through j r t b bs (byte_on j r b) refl (λ q h. goes j q t bs h) e
+goes i r t (b ∷ bs) e = through i r t b bs (byte_on (verifier i) r b) refl (λ q h. goes i q t bs h) e
 
 -- ---- where the bytes end
 
-stage_end : (at : ℕ) (s : Stage) → (at_end at s ≡ no 1 at) ⊎ ((l : ℕ) × (at_end at s ≡ yes l))
+stage_end : (at : ℕ) (s : Stage) → (at_end at s ≡ no 1 at) ⊎ ((l : ℕ) × (b : ℕ) × (at_end at s ≡ yes l b))
 stage_end at wants_title = inl refl
-stage_end at wants_size = inl refl
-stage_end at wants_length = inl refl
-stage_end at (wants_tour l) = inl refl
-stage_end at (wants_count l) = inl refl
+stage_end at (wants_size v) = inl refl
+stage_end at (wants_length v) = inl refl
+stage_end at (wants_bound l) = inl refl
+stage_end at (wants_tour l b) = inl refl
+stage_end at (wants_count l b) = inl refl
 stage_end at (wants_cut h c) = inl refl
 stage_end at (wants_handle h c from t) = inl refl
 stage_end at (wants_tooth h c from t s ts) = inl refl
-stage_end at (wants_trees h []) = inr (h.long, refl)
+stage_end at (wants_odd_handle h c from t) = inl refl
+stage_end at (wants_pair h c from t s ps) = inl refl
+stage_end at (wants_trees h []) = inr (h.long, h.bound, refl)
 stage_end at (wants_trees h (p ∷ ps)) = inl refl
 stage_end at (wants_duals h ps o a b c) = inl refl
 
-begun_end : (at : ℕ) (s : Stage) (b : Bool) → (cond b (no 1 at) (at_end at s) ≡ no 1 at) ⊎ ((l : ℕ) × (cond b (no 1 at) (at_end at s) ≡ yes l))
+begun_end : (at : ℕ) (s : Stage) (e : Bool) → (cond e (no 1 at) (at_end at s) ≡ no 1 at) ⊎ ((l : ℕ) × (b : ℕ) × (cond e (no 1 at) (at_end at s) ≡ yes l b))
 begun_end at s true = inl refl
 begun_end at s false = stage_end at s
 
-end_is : (t : Reading) → (end_of t ≡ no 1 t.at) ⊎ ((l : ℕ) × (end_of t ≡ yes l))
+end_is : (t : Reading) → (end_of t ≡ no 1 t.at) ⊎ ((l : ℕ) × (b : ℕ) × (end_of t ≡ yes l b))
 end_is t = begun_end t.at t.stage (nat_lt 0 (length t.begun))
 
 end_refusal : (t : Reading) (k at : ℕ) → end_of t ≡ no k at → (k ≡ 1) × (at ≡ t.at)
 end_refusal t k at e = ⊎_elim
     (λ a. let same : no k at ≡ no 1 t.at = sym e ∙ a in (cc, cc))
-    (λ b. let never : no k at ≡ yes b.0 = sym e ∙ b.1 in cc)
+    (λ b. let never : no k at ≡ yes b.0 b.1 = sym e ∙ b.2 in cc)
     (end_is t)
 
 -- ---- refusals
@@ -394,17 +400,17 @@ line_fits n w y e = (item_said n w y e).1
 told_fault : (i : Instance) (k at : ℕ) (r : Reading) (bs : List ℕ) → StandsAt r.stage r.at → (t : Told (verifier i) k at r bs) → Fault i t.to.stage t.to.at (item_of i.n (t.to.begun ++ line_behind t.lines bs)) k at
 told_fault i k at r bs st t =
     fault i t.to.stage t.to.at (item_of i.n (t.to.begun ++ line_behind t.lines bs)) k at (line_fits i.n (t.to.begun ++ line_behind t.lines bs))
-    ((goes (verifier i) r t.to (first_lines t.lines bs) t.front.comes).stands st) t.step
+    ((goes i r t.to (first_lines t.lines bs) t.front.comes).stands st) t.step
 
 told_placed : (i : Instance) (k at : ℕ) (r : Reading) (bs : List ℕ) → StandsAt r.stage r.at → (t : Told (verifier i) k at r bs) → IsPlaced t.to.at k at
 told_placed i k at r bs st t =
-    placed i t.to.stage t.to.at (item_of i.n (t.to.begun ++ line_behind t.lines bs)) k at ((goes (verifier i) r t.to (first_lines t.lines bs) t.front.comes).stands st) (told_fault i k at r bs st t)
+    placed i t.to.stage t.to.at (item_of i.n (t.to.begun ++ line_behind t.lines bs)) k at ((goes i r t.to (first_lines t.lines bs) t.front.comes).stands st) (told_fault i k at r bs st t)
 
 -- a refusal behind a reading is not told before it
 stops_from : (i : Instance) (k at : ℕ) (u : Reading) (bs : List ℕ) → StandsAt u.stage u.at → Stopped (verifier i) k at u bs → (u.at ≤ at) ⊎ (k ≡ 5) ⊎ (k ≡ 7)
 stops_from i k at u bs st s = ⊎_elim
     (λ t. let p = told_placed i k at u bs st t in let number = t.front.number in ⊎_elim (λ e. inl (omega arith)) (λ w. inr w) p.line)
-    (λ t. let g = (goes (verifier i) u t.to t.front t.comes).number in let number = t.number in inl (omega arith))
+    (λ t. let g = (goes i u t.to t.front t.comes).number in let number = t.number in inl (omega arith))
     s
 
 ends_from : (i : Instance) (k at : ℕ) (u : Reading) (bs : List ℕ) (x : Read) → StandsAt u.stage u.at → bytes_on (verifier i) (reads u) bs ≡ x → verdict_at_end x ≡ no k at → (u.at ≤ at) ⊎ (k ≡ 5) ⊎ (k ≡ 7)
@@ -414,7 +420,7 @@ ends_from i k at u bs (stops l from) st e h =
 ends_from i k at u bs (reads t) st e h =
     let z = end_refusal t k at h in
     let line = z.1 in
-    let g = (goes (verifier i) u t bs e).number in
+    let g = (goes i u t bs e).number in
     inl (omega arith)
 
 lower : (a b line k : ℕ) → a ≤ b → (b ≤ line) ⊎ (k ≡ 5) ⊎ (k ≡ 7) → (a ≤ line) ⊎ (k ≡ 5) ⊎ (k ≡ 7)
@@ -425,7 +431,7 @@ begun_title = refl
 
 refused_from : (i : Instance) (front : List ℕ) (at : ℕ) (u : Reading) → bytes_on (verifier i) (reads start) front ≡ reads u → at ≤ u.at → IsRefusedFrom i front at
 refused_from i front at u e l = λ more k line h.
-    let st = (goes (verifier i) start u front e).stands begun_title in
+    let st = (goes i start u front e).stands begun_title in
     lower at u.at line k l (ends_from i k line u more (bytes_on (verifier i) (reads u) more) st refl
     (sym (ap verdict_at_end (reads_in_pieces (verifier i) (reads start) front more ∙ ap (λ x. bytes_on (verifier i) x more) e)) ∙ h))
 
@@ -441,7 +447,7 @@ front_nothing i bs q t f =
     let line : t.at ≡ q + 1 = omega arith in
     ⊎_elim
     (λ a. inl (e ∙ a ∙ ap (no 1) line))
-    (λ b. inr (b.0, e ∙ b.1))
+    (λ b. inr (b.0, b.1, e ∙ b.2))
     (end_is t)
 
 told : (i : Instance) (k at : ℕ) (bytes : List ℕ) → i.n < 2 ^ 32 → Told (verifier i) k at start bytes → (m : ℕ) × IsTold i bytes k at m
@@ -459,7 +465,7 @@ told i k at bytes h t =
       record {
         same = λ other e. let w = lines_then m other in ap (verdict i) (w.1 ∙ ap (λ x. x ++ w.0) e) ∙ always w.0;
         always = always;
-        never = λ more l a. let yes_too = (yes_is_accepted_text i (first_lines m bytes ++ more) l h).1 a in let never : no k at ≡ yes l = sym (always more) ∙ yes_too in cc;
+        never = λ more l b a. let yes_too = (yes_is_accepted_text i (first_lines m bytes ++ more) l b h).1 a in let never : no k at ≡ yes l b = sym (always more) ∙ yes_too in cc;
         first = λ q l. let u = t.fronts q (omega arith) in front_nothing i bytes q u.0 u.1;
         begins = p.begins;
         ends = omega arith;
@@ -477,7 +483,7 @@ told i k at bytes h t =
 long : (i : Instance) (k at : ℕ) (bytes : List ℕ) → Long (verifier i) k at start bytes → IsTooLong i bytes k at
 long i k at bytes t =
     let e : verdict i t.front ≡ end_of t.to = ap verdict_at_end t.comes in
-    let g = (goes (verifier i) start t.to t.front t.comes).number in
+    let g = (goes i start t.to t.front t.comes).number in
     let number = t.number in
     let most = t.most (omega arith) in
     record {
@@ -488,7 +494,7 @@ long i k at bytes t =
       most = omega arith;
       some = t.some;
       line = omega arith;
-      nothing = ⊎_elim (λ a. inl (e ∙ a ∙ ap (no 1) number)) (λ b. inr (b.0, e ∙ b.1)) (end_is t.to);
+      nothing = ⊎_elim (λ a. inl (e ∙ a ∙ ap (no 1) number)) (λ b. inr (b.0, b.1, e ∙ b.2)) (end_is t.to);
     }
 
 -- as many lines as asked for, where there are so many
@@ -512,16 +518,16 @@ read_nothing i bytes t q e l =
     let u = was_read (verifier i) (bytes_on (verifier i) (reads start) (first_lines q bytes)) w.0 t
     (sym (reads_in_pieces (verifier i) (reads start) (first_lines q bytes) w.0) ∙ sym (ap (bytes_on (verifier i) (reads start)) w.1) ∙ e) in
     let v : verdict i (first_lines q bytes) ≡ end_of u.0 = ap verdict_at_end u.1 in
-    let number = (goes (verifier i) start u.0 (first_lines q bytes) u.1).number in
+    let number = (goes i start u.0 (first_lines q bytes) u.1).number in
     let count = ended_first q bytes l in
     let line : u.0.at ≡ q + 1 = omega arith in
-    ⊎_elim (λ a. inl (v ∙ a ∙ ap (no 1) line)) (λ b. inr (b.0, v ∙ b.1)) (end_is u.0)
+    ⊎_elim (λ a. inl (v ∙ a ∙ ap (no 1) line)) (λ b. inr (b.0, b.1, v ∙ b.2)) (end_is u.0)
 
 early : (i : Instance) (k at : ℕ) (bytes : List ℕ) (t : Reading) → bytes_on (verifier i) (reads start) bytes ≡ reads t → end_of t ≡ no k at → EndsEarly i bytes k at
 early i k at bytes t e h =
     let z = end_refusal t k at h in
     let line = z.1 in
-    let g = (goes (verifier i) start t bytes e).number in
+    let g = (goes i start t bytes e).number in
     record {
       refusal = z.0;
       line = omega arith;
@@ -540,16 +546,19 @@ refusals_are_of_the_front i bytes k at h e = by_reading i k at bytes (bytes_on (
 
 -- ---- bytes behind the tree
 
-end_yes : (at : ℕ) (s : Stage) → is_end s ≡ true → (l : ℕ) × (at_end at s ≡ yes l)
-end_yes at (wants_trees h []) e = (h.long, refl)
+end_yes : (at : ℕ) (s : Stage) → is_end s ≡ true → (l : ℕ) × (b : ℕ) × (at_end at s ≡ yes l b)
+end_yes at (wants_trees h []) e = (h.long, h.bound, refl)
 end_yes at wants_title e = cc
-end_yes at wants_size e = cc
-end_yes at wants_length e = cc
-end_yes at (wants_tour l) e = cc
-end_yes at (wants_count l) e = cc
+end_yes at (wants_size v) e = cc
+end_yes at (wants_length v) e = cc
+end_yes at (wants_bound l) e = cc
+end_yes at (wants_tour l b) e = cc
+end_yes at (wants_count l b) e = cc
 end_yes at (wants_cut h c) e = cc
 end_yes at (wants_handle h c from t) e = cc
 end_yes at (wants_tooth h c from t s ts) e = cc
+end_yes at (wants_odd_handle h c from t) e = cc
+end_yes at (wants_pair h c from t s ps) e = cc
 end_yes at (wants_trees h (p ∷ ps)) e = cc
 end_yes at (wants_duals h ps o a b c) e = cc
 
@@ -561,18 +570,20 @@ only_end i s m x at (not_a_tour f) = let k = f.refusal in absurd (omega arith)
 only_end i s m x at (wrong_length f) = let k = f.refusal in absurd (omega arith)
 only_end i s m x at (set_of_all f) = let k = f.refusal in absurd (omega arith)
 only_end i s m x at (not_a_comb f) = let k = f.refusal in absurd (omega arith)
+only_end i s m x at (not_an_odd_cut f) = let k = f.refusal in absurd (omega arith)
 only_end i s m x at (decided_edge f) = let k = f.refusal in absurd (omega arith)
 only_end i s m x at (weak_leaf f) = let k = f.refusal in absurd (omega arith)
 only_end i s m x at (open_leaf f) = let k = f.refusal in absurd (omega arith)
 only_end i s m x at (trailing f) = (f.behind, f.line)
+only_end i s m x at (wrong_bound f) = let k = f.refusal in absurd (omega arith)
 
-behind_accepted : (i : Instance) (bytes : List ℕ) (at m : ℕ) → i.n < 2 ^ 32 → IsTold i bytes 9 at m → (l : ℕ) × IsAcceptedText i (first_lines (at - 1) bytes) l
+behind_accepted : (i : Instance) (bytes : List ℕ) (at m : ℕ) → i.n < 2 ^ 32 → IsTold i bytes 9 at m → (l : ℕ) × (b : ℕ) × IsAcceptedText i (first_lines (at - 1) bytes) l b
 behind_accepted i bytes at m h t =
     let f = only_end i t.before.stage m (item_of i.n (line_behind (m - 1) bytes)) at t.fault in
     let y = end_yes t.before.at t.before.stage f.0 in
-    let ends : verdict i (first_lines (m - 1) bytes) ≡ yes y.0 = ap verdict_at_end t.stands ∙ ap (λ w. cond (nat_lt 0 (length w)) (no 1 t.before.at) (at_end t.before.at t.before.stage)) t.clean ∙ y.1 in
-    let same : verdict i (first_lines (at - 1) bytes) ≡ yes y.0 = ap (λ q. verdict i (first_lines (q - 1) bytes)) f.1 ∙ ends in
-    (y.0, (yes_is_accepted_text i (first_lines (at - 1) bytes) y.0 h).0 same)
+    let ends : verdict i (first_lines (m - 1) bytes) ≡ yes y.0 y.1 = ap verdict_at_end t.stands ∙ ap (λ w. cond (nat_lt 0 (length w)) (no 1 t.before.at) (at_end t.before.at t.before.stage)) t.clean ∙ y.2 in
+    let same : verdict i (first_lines (at - 1) bytes) ≡ yes y.0 y.1 = ap (λ q. verdict i (first_lines (q - 1) bytes)) f.1 ∙ ends in
+    (y.0, y.1, (yes_is_accepted_text i (first_lines (at - 1) bytes) y.0 y.1 h).0 same)
 
 pub trailing_is_behind_accepted : TrailingIsBehindAccepted
 trailing_is_behind_accepted i bytes at h e = ⊎_elim

@@ -1,12 +1,12 @@
 -- values are spelled apart
-use Rattle.std.proofs.Common.{◌≡◌, ℕ, ◌^◌, ◌<◌, true, List, [], ◌∷◌, ◌++◌, length, get_or, map, drop, ℤ, refl, sym, ap, ◌∙◌, arith, append_assoc, eqb, ◌⊎◌, inl, inr, ⊎_elim}
+use Rattle.std.proofs.Common.{◌≡◌, ℕ, ◌^◌, ◌<◌, true, List, [], ◌∷◌, ◌++◌, length, get_or, map, drop, Option, Some, None, ℤ, refl, sym, ap, ◌∙◌, arith, append_assoc, eqb, ◌⊎◌, inl, inr, ⊎_elim}
 use Rattle.std.specs.List.{flat_map, AllByRecursion, slice_split}
 use Rattle.certdef.specs.Items.{Item, tooth_line, line, fits, only_item}
-use Rattle.certdef.specs.Proofs.{Listed, subtour_cut, comb_cut, Duals, Written, open_leaf, closed_leaf, edge_split, clique_split, Proof, listed_items, city_item, cut_item, condition_item, dual_items, tree_items, items, ended, text_of, text}
+use Rattle.certdef.specs.Proofs.{Listed, subtour_cut, comb_cut, odd_cut, Duals, Written, open_leaf, closed_leaf, edge_split, clique_split, Proof, listed_items, pair_item, city_item, cut_item, condition_item, dual_items, tree_items, head_items, items, ended, text_of, text}
 use Rattle.verdict.specs.Spellings.{SpellingsAreApart, NoTextBeginsAnother, BytesHaveOneValue}
 use Rattle.verdict.proofs.Lines.{Small, small_if, InLine, line_plain, split_line, only_words}
 use Rattle.verdict.proofs.CutSteps.{append_nil}
-use Rattle.verdict.proofs.Runs.{AreOfForm}
+use Rattle.verdict.proofs.Runs.{AreOfForm, body, items_said}
 
 -- ---- from bytes to items
 
@@ -84,6 +84,12 @@ conditions_apart a b e =
     let q : a.1 ≡ b.1 = cc in
     ap (λ c. (c, a.1)) p ∙ ap (λ c. (b.0, c)) q
 
+pairs_apart : (a b : ℕ × ℕ) → pair_item a ≡ pair_item b → a ≡ b
+pairs_apart a b e =
+    let p : a.0 ≡ b.0 = cc in
+    let q : a.1 ≡ b.1 = cc in
+    ap (λ c. (c, a.1)) p ∙ ap (λ c. (b.0, c)) q
+
 teeth_apart : (a b : List ℕ) → tooth_line a ≡ tooth_line b → a ≡ b
 teeth_apart a b e = cc
 
@@ -140,13 +146,23 @@ cut_apart (subtour_cut s) (subtour_cut t) xs ys e =
     let set : s ≡ t = cc in
     (ap subtour_cut set, cc)
 cut_apart (subtour_cut s) (comb_cut h ts) xs ys e = cc
+cut_apart (subtour_cut s) (odd_cut h ps) xs ys e = cc
 cut_apart (comb_cut h ts) (subtour_cut s) xs ys e = cc
+cut_apart (comb_cut h ts) (odd_cut g ps) xs ys e = cc
+cut_apart (odd_cut h ps) (subtour_cut s) xs ys e = cc
+cut_apart (odd_cut h ps) (comb_cut g ts) xs ys e = cc
 cut_apart (comb_cut h ts) (comb_cut g us) xs ys e =
     let count : length ts ≡ length us = cc in
     let handle : h ≡ g = cc in
     let tail : map tooth_line ts ++ xs ≡ map tooth_line us ++ ys = cc in
     let r = mapped_apart tooth_line teeth_apart ts us xs ys count tail in
     (ap (λ k. comb_cut k ts) handle ∙ ap (comb_cut g) r.0, r.1)
+cut_apart (odd_cut h ps) (odd_cut g qs) xs ys e =
+    let count : length ps ≡ length qs = cc in
+    let handle : h ≡ g = cc in
+    let tail : map pair_item ps ++ xs ≡ map pair_item qs ++ ys = cc in
+    let r = mapped_apart pair_item pairs_apart ps qs xs ys count tail in
+    (ap (λ k. odd_cut k ps) handle ∙ ap (odd_cut g) r.0, r.1)
 
 lists_apart : (cs ds : List Listed) (xs ys : List Item) → length cs ≡ length ds → flat_map listed_items cs ++ xs ≡ flat_map listed_items ds ++ ys → (cs ≡ ds) × (xs ≡ ys)
 lists_apart [] [] xs ys l e = (refl, e)
@@ -158,21 +174,41 @@ lists_apart (c ∷ cs) (d ∷ ds) xs ys l e =
     let r = lists_apart cs ds xs ys (omega arith) head.1 in
     (ap (λ k. k ∷ cs) head.0 ∙ ap (λ k. d ∷ k) r.0, r.1)
 
+-- two heads are one, and so is what follows them
+pub record AreSameHeads (n m l k : ℕ) (a b : Option ℕ) (xs ys : List Item) : Type 0 where
+  pub cities : n ≡ m
+  pub long : l ≡ k
+  pub bound : a ≡ b
+  pub behind : xs ≡ ys
+
+heads_apart : (n m l k : ℕ) (a b : Option ℕ) (xs ys : List Item) → head_items n l a ++ xs ≡ head_items m k b ++ ys → AreSameHeads n m l k a b xs ys
+heads_apart n m l k None None xs ys e = record { cities = cc; long = cc; bound = refl; behind = cc }
+heads_apart n m l k None (Some b) xs ys e = let same : ◌≡◌ {A = ℕ} 1 2 = cc in absurd (omega arith)
+heads_apart n m l k (Some a) None xs ys e = let same : ◌≡◌ {A = ℕ} 2 1 = cc in absurd (omega arith)
+heads_apart n m l k (Some a) (Some b) xs ys e =
+    let same : a ≡ b = cc in
+    record { cities = cc; long = cc; bound = ap Some same; behind = cc }
+
+-- items, and more behind them, by their head
+items_more : (p : Proof) (xs : List Item) → items p ++ xs ≡ head_items p.cities p.long p.bound ++ (body p.tour p.cuts p.tree ++ xs)
+items_more p xs = ap (λ r. r ++ xs) (items_said p) ∙ append_assoc (head_items p.cities p.long p.bound) (body p.tour p.cuts p.tree) xs
+
 values_apart : (p q : Proof) (xs ys : List Item) → items p ++ xs ≡ items q ++ ys → (p ≡ q) × (xs ≡ ys)
 values_apart p q xs ys e =
-    let cities : p.cities ≡ q.cities = cc in
-    let long : p.long ≡ q.long = cc in
+    let heads = heads_apart p.cities q.cities p.long q.long p.bound q.bound (body p.tour p.cuts p.tree ++ xs) (body q.tour q.cuts q.tree ++ ys) (sym (items_more p xs) ∙ e ∙ items_more q ys) in
+    let behind = heads.behind in
     let tour : p.tour ≡ q.tour = cc in
     let count : length p.cuts ≡ length q.cuts = cc in
     let tail : (flat_map listed_items p.cuts ++ tree_items p.tree) ++ xs ≡ (flat_map listed_items q.cuts ++ tree_items q.tree) ++ ys = cc in
     let cuts = lists_apart p.cuts q.cuts (tree_items p.tree ++ xs) (tree_items q.tree ++ ys) count
     (sym (append_assoc (flat_map listed_items p.cuts) (tree_items p.tree) xs) ∙ tail ∙ append_assoc (flat_map listed_items q.cuts) (tree_items q.tree) ys) in
     let tree = trees_apart p.tree q.tree xs ys cuts.1 in (
-      ap (λ k. record { cities = k; long = p.long; tour = p.tour; cuts = p.cuts; tree = p.tree }) cities
-          ∙ ap (λ k. record { cities = q.cities; long = k; tour = p.tour; cuts = p.cuts; tree = p.tree }) long
-          ∙ ap (λ k. record { cities = q.cities; long = q.long; tour = k; cuts = p.cuts; tree = p.tree }) tour
-          ∙ ap (λ k. record { cities = q.cities; long = q.long; tour = q.tour; cuts = k; tree = p.tree }) cuts.0
-          ∙ ap (λ k. record { cities = q.cities; long = q.long; tour = q.tour; cuts = q.cuts; tree = k }) tree.0,
+      ap (λ k. record { cities = k; long = p.long; bound = p.bound; tour = p.tour; cuts = p.cuts; tree = p.tree }) heads.cities
+          ∙ ap (λ k. record { cities = q.cities; long = k; bound = p.bound; tour = p.tour; cuts = p.cuts; tree = p.tree }) heads.long
+          ∙ ap (λ k. record { cities = q.cities; long = q.long; bound = k; tour = p.tour; cuts = p.cuts; tree = p.tree }) heads.bound
+          ∙ ap (λ k. record { cities = q.cities; long = q.long; bound = q.bound; tour = k; cuts = p.cuts; tree = p.tree }) tour
+          ∙ ap (λ k. record { cities = q.cities; long = q.long; bound = q.bound; tour = q.tour; cuts = k; tree = p.tree }) cuts.0
+          ∙ ap (λ k. record { cities = q.cities; long = q.long; bound = q.bound; tour = q.tour; cuts = q.cuts; tree = k }) tree.0,
       tree.1,
     )
 

@@ -1,16 +1,16 @@
 -- a line of the tree, forth and back
 use Rattle.std.proofs.Common.{◌≡◌, ℕ, ◌-◌, List, [], ◌∷◌, ◌++◌, length, refl, sym, ap, ◌∙◌, subst, append_assoc}
 use Rattle.tspdef.specs.Paths.{Condition, absent, present, two, four}
-use Rattle.certdef.specs.Items.{Item, title_line, size_line, length_line, tour_line, cuts_line, subtour_line, comb_line, handle_line, tooth_line, edge_line, clique_line, leaf_line, city_line, cut_line, condition_line, open_line}
+use Rattle.certdef.specs.Items.{Item, title_line, size_line, length_line, bound_line, tour_line, cuts_line, subtour_line, comb_line, handle_line, tooth_line, odd_line, pair_line, edge_line, clique_line, leaf_line, city_line, cut_line, condition_line, open_line}
 use Rattle.certdef.specs.Proofs.{Written, open_leaf, closed_leaf, edge_split, clique_split, dual_items, tree_items}
 use Rattle.certdef.specs.Accepted.{from_zero}
 use Rattle.certdef.specs.Tests.{Tests}
 use Rattle.certdef.specs.Verdicts.{Head, OpenDuals, wants_trees, go, refused, on_tree}
-use Rattle.verdict.proofs.Left.{Good, Trees, LeftOf}
+use Rattle.verdict.proofs.Left.{says, Good, Trees, LeftOf}
 use Rattle.verdict.proofs.CutSteps.{passed, avoided, passes, avoids}
 use Rattle.verdict.proofs.DualSteps.{duals_forth, duals_back}
 
-pub on_tree_forth : (j : Tests) (l : ℕ) (h : Head) (path : List Condition) (ps : List (List Condition)) (at : ℕ) (x : Item) (xs : List Item) → h.long ≡ l → (t : Written) (rest : List Item) → x ∷ xs ≡ tree_items t ++ rest → Good j h path t → Trees j h ps rest → LeftOf j l (on_tree j h path ps at x) xs
+pub on_tree_forth : (j : Tests) (l : ℕ × ℕ) (h : Head) (path : List Condition) (ps : List (List Condition)) (at : ℕ) (x : Item) (xs : List Item) → says h ≡ l → (t : Written) (rest : List Item) → x ∷ xs ≡ tree_items t ++ rest → Good j h path t → Trees j h ps rest → LeftOf j l (on_tree j h path ps at x) xs
 on_tree_forth j l h path ps at x xs e open_leaf rest said good trees =
     let head : open_line ≡ x = cc in
     let tail : rest ≡ xs = cc in
@@ -43,7 +43,7 @@ on_tree_forth j l h path ps at x xs e (clique_split q t s) rest said good trees 
     (passes j l (j.proper q) (go (wants_trees h ((path ++ two (from_zero q) ∷ []) ∷ (path ++ four (from_zero q) ∷ []) ∷ ps))) (refused 5 at) xs good.0
     (e, (t, tree_items s ++ rest, tail ∙ append_assoc (tree_items t) (tree_items s) rest, good.1.0, (s, rest, refl, good.1.1, trees))))
 
-pub on_tree_back : (j : Tests) (l : ℕ) (h : Head) (path : List Condition) (ps : List (List Condition)) (at : ℕ) (x : Item) (xs : List Item) → LeftOf j l (on_tree j h path ps at x) xs → (h.long ≡ l) × Trees j h (path ∷ ps) (x ∷ xs)
+pub on_tree_back : (j : Tests) (l : ℕ × ℕ) (h : Head) (path : List Condition) (ps : List (List Condition)) (at : ℕ) (x : Item) (xs : List Item) → LeftOf j l (on_tree j h path ps at x) xs → (says h ≡ l) × Trees j h (path ∷ ps) (x ∷ xs)
 on_tree_back j l h path ps at (edge_line u v) xs k =
     let p = avoided j l (j.decided path (u - 1) (v - 1)) (wants_trees h ((path ++ absent (u - 1) (v - 1) ∷ []) ∷ (path ++ present (u - 1) (v - 1) ∷ []) ∷ ps)) 6 at xs k in
     let a = p.1.1 in
@@ -69,15 +69,18 @@ on_tree_back j l h path ps at (leaf_line x y z) xs k =
         d.trees,
       ),
     )
-on_tree_back j l h path ps at title_line xs k = absurd k
+on_tree_back j l h path ps at (title_line z) xs k = absurd k
 on_tree_back j l h path ps at (size_line z) xs k = absurd k
 on_tree_back j l h path ps at (length_line z) xs k = absurd k
+on_tree_back j l h path ps at (bound_line z) xs k = absurd k
 on_tree_back j l h path ps at (tour_line cs) xs k = absurd k
 on_tree_back j l h path ps at (cuts_line z) xs k = absurd k
 on_tree_back j l h path ps at (subtour_line q) xs k = absurd k
 on_tree_back j l h path ps at (comb_line z) xs k = absurd k
 on_tree_back j l h path ps at (handle_line q) xs k = absurd k
 on_tree_back j l h path ps at (tooth_line q) xs k = absurd k
+on_tree_back j l h path ps at (odd_line z) xs k = absurd k
+on_tree_back j l h path ps at (pair_line u v) xs k = absurd k
 on_tree_back j l h path ps at (city_line v w) xs k = absurd k
 on_tree_back j l h path ps at (cut_line y z) xs k = absurd k
 on_tree_back j l h path ps at (condition_line y z) xs k = absurd k

@@ -1,8 +1,8 @@
 -- values that pass a verifier's tests are accepted, and those that pass the form's are readable
 use Rattle.std.proofs.Common.{◌≡◌, ℕ, zero, suc, ◌+◌, ◌-◌, ◌^◌, ◌<◌, ◌≤◌, Bool, true, false, cond, ◌&&◌, List, [], ◌∷◌, ◌++◌, length, map, ℤ, refl, sym, subst, arith}
-use Rattle.std.specs.Prelude.{nat_le, nat_lt, nat_abs, ◌==◌, slice_index_or, ◌↔◌}
+use Rattle.std.specs.Prelude.{nat_le, nat_lt, nat_abs, ◌==◌, slice_index_or, ◌↔◌, Option, Some, None}
 use Rattle.std.specs.List.{AllByRecursion}
-use Rattle.std.proofs.lemmas.Bool.{and_parts, and_from, eq-eqb, eqb-true, leb-true, ltb-true}
+use Rattle.std.proofs.lemmas.Bool.{and_parts, and_from, eq-eqb, eqb-true, leb-true, ltb-true, lt-ltb}
 use Rattle.tspdef.specs.Instances.{Instance, length_in}
 use Rattle.tspdef.specs.Cuts.{Cut, subtour, IsCut}
 use Rattle.tspdef.specs.Paths.{Condition, absent, present, two, four, condition_at, root}
@@ -10,16 +10,18 @@ use Rattle.tspdef.specs.Closings.{IsDualSize, NamesCliques, IsClosing}
 use Rattle.tspdef.specs.Bounds.{bound, needed}
 use Rattle.tspdef.specs.Trees.{IsSound, open_leaves}
 use Rattle.certdef.specs.Items.{Item, edge_line, leaf_line, city_line, cut_line, condition_line, line, rises, is_dual, in_bounds, longest, fits}
-use Rattle.certdef.specs.Proofs.{Listed, Duals, Written, open_leaf, closed_leaf, edge_split, clique_split, Proof, listed_items, city_item, cut_item, condition_item, dual_items, tree_items, lines}
+use Rattle.certdef.specs.Proofs.{Listed, Duals, Written, open_leaf, closed_leaf, edge_split, clique_split, Proof, listed_items, city_item, cut_item, condition_item, dual_items, tree_items, head_items, lines}
 use Rattle.std.specs.List.{flat_map}
-use Rattle.certdef.specs.Accepted.{from_zero, cut_of, cuts_of, dual_of, duals_from, cut_at, closing_of, tree_of, firsts, is_clique, name_cliques, LeavesRise, DepthsName, IsReadable, HasForm, IsAcceptedProof}
+use Rattle.certdef.specs.Accepted.{from_zero, cut_of, cuts_of, dual_of, duals_from, cut_at, closing_of, tree_of, firsts, is_clique, name_cliques, LeavesRise, DepthsName, IsReadable, HasForm, IsBoundOf, IsAcceptedProof}
 use Rattle.certdef.specs.Tests.{is_cut, verifier}
 use Rattle.verdict.specs.Forms.{form_only}
+use Rattle.verdict.specs.WrongValues.{bound_of}
 use Rattle.certdef.specs.Verdicts.{Head, yes, verdict_by}
 use Rattle.certdef.proofs.Depths.{depths_behind, depths_without}
+use Rattle.certdef.proofs.Restarts.{bound_le}
 use Rattle.verdict.proofs.Left.{all_named, Good}
 use Rattle.verdict.proofs.CutSteps.{append_nil}
-use Rattle.verdict.proofs.Runs.{AreOfForm, AreGood, yes_is_good}
+use Rattle.verdict.proofs.Runs.{AreOfForm, IsToldBound, AreGood, body, items_said, yes_is_good}
 use Rattle.verdict.proofs.Decisions.{tour_from_one_yes, yes_tour_from_one, proper_yes, yes_proper, cut_yes, yes_cut, clique_yes, below_z, z_below}
 
 -- ---- lists
@@ -149,11 +151,11 @@ yes_cliques i path (d ∷ ds) e =
     let p = and_parts (is_clique (condition_at path d)) (name_cliques path ds) e in
     and_from (is_clique (condition_at path d)) (all_named (verifier i) path ds) p.0 (yes_cliques i path ds p.1)
 
--- what a written tree is for a length, with cuts listed
+-- what a written tree is for a bound, with cuts listed
 pub record IsWell (i : Instance) (h : Head) (path : List Condition) (t : Written) : Type 0 where
   pub rise : LeavesRise i.n (length h.cuts) t
   pub depths : DepthsName path t
-  pub sound : IsSound i (needed h.long) path (tree_of i.n (cuts_of i.n h.cuts) t)
+  pub sound : IsSound i (needed h.bound) path (tree_of i.n (cuts_of i.n h.cuts) t)
   pub none_open : open_leaves (tree_of i.n (cuts_of i.n h.cuts) t) ≡ 0
 
 tree_yes : (i : Instance) (h : Head) (path : List Condition) (t : Written) → AllByRecursion (IsCut i.n) (cuts_of i.n h.cuts) → AreOfForm i.n (tree_items t) → Good (verifier i) h path t → IsWell i h path t
@@ -166,7 +168,7 @@ tree_yes i h path (closed_leaf d) c f g =
       depths = named;
       sound = (
         duals_are_closing i.n h.cuts path d c f o.cuts named,
-        below_z (needed h.long) (bound i path (closing_of i.n (cuts_of i.n h.cuts) d)) g.1,
+        below_z (needed h.bound) (bound i path (closing_of i.n (cuts_of i.n h.cuts) d)) g.1,
       );
       none_open = refl;
     }
@@ -185,11 +187,11 @@ tree_yes i h path (clique_split q t s) c f g =
     let none_too = b.none_open in
     record { rise = (a.rise, b.rise); depths = (a.depths, b.depths); sound = (proper_yes i.n (from_zero q) g.0, (a.sound, b.sound)); none_open = omega arith }
 
-yes_tree : (i : Instance) (h : Head) (path : List Condition) (t : Written) → LeavesRise i.n (length h.cuts) t → DepthsName path t → IsSound i (needed h.long) path (tree_of i.n (cuts_of i.n h.cuts) t) → open_leaves (tree_of i.n (cuts_of i.n h.cuts) t) ≡ 0
+yes_tree : (i : Instance) (h : Head) (path : List Condition) (t : Written) → LeavesRise i.n (length h.cuts) t → DepthsName path t → IsSound i (needed h.bound) path (tree_of i.n (cuts_of i.n h.cuts) t) → open_leaves (tree_of i.n (cuts_of i.n h.cuts) t) ≡ 0
     → Good (verifier i) h path t
 yes_tree i h path open_leaf o w s n = absurd (omega arith)
 yes_tree i h path (closed_leaf d) o w s n =
-    (record { cities = o.cities; cuts = o.cuts; conds = o.conds; named = yes_cliques i path (firsts d.conds) w }, z_below (needed h.long) (bound i path (closing_of i.n (cuts_of i.n h.cuts) d)) s.1)
+    (record { cities = o.cities; cuts = o.cuts; conds = o.conds; named = yes_cliques i path (firsts d.conds) w }, z_below (needed h.bound) (bound i path (closing_of i.n (cuts_of i.n h.cuts) d)) s.1)
 yes_tree i h path (edge_split u v t z) o w s n = (
   s.0.1,
   (yes_tree i h (path ++ absent (u - 1) (v - 1) ∷ []) t o.0 w.0 s.1.0 (omega arith), yes_tree i h (path ++ present (u - 1) (v - 1) ∷ []) z o.1 w.1 s.1.1 (omega arith)),
@@ -216,32 +218,43 @@ depths_from_root i t h = depths_without i.fixed [] t (subst (λ r. DepthsName r 
 
 -- ---- by a verifier's tests
 
--- the lines are those of a value of the grammar that is accepted with length l
-pub record AreLinesOf (i : Instance) (ls : List (List ℕ)) (l : ℕ) (p : Proof) : Type 0 where
+-- the lines are those of a value of the grammar that is accepted with this length and this bound
+pub record AreLinesOf (i : Instance) (ls : List (List ℕ)) (l b : ℕ) (p : Proof) : Type 0 where
   pub lines : ls ≡ lines p
   pub form : HasForm i.n p
-  pub accepted : IsAcceptedProof i l p
+  pub accepted : IsAcceptedProof i l b p
 
-abbrev pub AreAccepted : Instance → List (List ℕ) → ℕ → Type 0
-AreAccepted i ls l = (p : Proof) × AreLinesOf i ls l p
+abbrev pub AreAccepted : Instance → List (List ℕ) → ℕ → ℕ → Type 0
+AreAccepted i ls l b = (p : Proof) × AreLinesOf i ls l b p
 
-accepted : (i : Instance) (l : ℕ) (ls : List (List ℕ)) → AreGood (verifier i) ls l → AreAccepted i ls l
-accepted i l ls (p, e, f, g) =
+bound_yes : (i : Instance) (told : Option ℕ) (l b : ℕ) → IsToldBound (verifier i) told (l, b) → IsBoundOf told l b
+bound_yes i None l b h = h
+bound_yes i (Some k) l b h = (h.0, ltb-true b l h.1)
+
+yes_bound : (i : Instance) (told : Option ℕ) (l b : ℕ) → IsBoundOf told l b → IsToldBound (verifier i) told (l, b)
+yes_bound i None l b h = h
+yes_bound i (Some k) l b h = (h.0, lt-ltb b l h.1)
+
+accepted : (i : Instance) (l b : ℕ) (ls : List (List ℕ)) → AreGood (verifier i) ls (l, b) → AreAccepted i ls l b
+accepted i l b ls (p, e, f, g) =
     let P : Item → Type 0 = λ x. fits i.n x ≡ true in
     let cs = from_zero p.tour in
     let tour = tour_from_one_yes i p.tour g.is_tour in
     let cuts = cuts_yes i.n p.cuts g.cuts in
-    let tree = tree_yes i (record { long = l; cuts = p.cuts }) (root i) p.tree cuts (all_last P (flat_map listed_items p.cuts) (tree_items p.tree) f.1.1.1.1.1) g.tree in (
+    let behind : AreOfForm i.n (body p.tour p.cuts p.tree) = all_last P (head_items p.cities p.long p.bound) (body p.tour p.cuts p.tree) (subst (λ r. AreOfForm i.n r) (items_said p) f) in
+    let tree = tree_yes i (record { long = l; bound = b; cuts = p.cuts }) (root i) p.tree cuts (all_last P (flat_map listed_items p.cuts) (tree_items p.tree) behind.1.1) g.tree in
+    let bound = bound_yes i p.bound l b g.bound in (
       p,
       record {
         lines = e;
-        form = record { readable = record { lines = f; rise = tree.rise }; depths = depths_from_root i p.tree tree.depths };
+        form = record { readable = record { lines = f; pairs = g.pairs; rise = tree.rise }; depths = depths_from_root i p.tree tree.depths };
         accepted = record {
-          about = record { size = eqb-true p.cities i.n g.size; same = g.same_length; cuts = cuts; from_one = tour.from_one };
+          about = record { size = eqb-true p.cities i.n g.size; same = g.same_length; bound = bound; cuts = cuts; from_one = tour.from_one };
           accepted = record {
             is_tour = tour.is_tour;
             canonical = tour.canonical;
             long = sym (eqb-true (length_in i cs) l g.long);
+            below = bound_le p.bound l b bound;
             sound = tree.sound;
             none_open = tree.none_open;
           };
@@ -249,8 +262,8 @@ accepted i l ls (p, e, f, g) =
       },
     )
 
-is_good : (i : Instance) (l : ℕ) (ls : List (List ℕ)) → AreAccepted i ls l → AreGood (verifier i) ls l
-is_good i l ls (p, k) =
+is_good : (i : Instance) (l b : ℕ) (ls : List (List ℕ)) → AreAccepted i ls l b → AreGood (verifier i) ls (l, b)
+is_good i l b ls (p, k) =
     let cs = from_zero p.tour in
     let f = k.form in
     let about = k.accepted.about in
@@ -261,18 +274,20 @@ is_good i l ls (p, k) =
       record {
         size = eq-eqb p.cities i.n about.size;
         same_length = about.same;
+        bound = yes_bound i p.bound l b about.bound;
         is_tour = yes_tour_from_one i p.tour about.from_one a.is_tour a.canonical;
         long = eq-eqb (length_in i cs) l (sym a.long);
+        pairs = f.readable.pairs;
         cuts = yes_cuts i.n p.cuts about.cuts;
-        tree = yes_tree i (record { long = l; cuts = p.cuts }) (root i) p.tree f.readable.rise (depths_at_root i p.tree f.depths) a.sound a.none_open;
+        tree = yes_tree i (record { long = l; bound = b; cuts = p.cuts }) (root i) p.tree f.readable.rise (depths_at_root i p.tree f.depths) a.sound a.none_open;
       },
     )
 
 -- the verdict on lines is yes exactly on those of accepted values
-pub yes_is_accepted : (i : Instance) (ls : List (List ℕ)) (l : ℕ) → i.n < 2 ^ 32 → (verdict_by (verifier i) ls ≡ yes l) ↔ AreAccepted i ls l
-yes_is_accepted i ls l h =
-    let y = yes_is_good (verifier i) ls l h in
-    (λ e. accepted i l ls (y.0 e), λ a. y.1 (is_good i l ls a))
+pub yes_is_accepted : (i : Instance) (ls : List (List ℕ)) (l b : ℕ) → i.n < 2 ^ 32 → (verdict_by (verifier i) ls ≡ yes l b) ↔ AreAccepted i ls l b
+yes_is_accepted i ls l b h =
+    let y = yes_is_good (verifier i) ls (l, b) h in
+    (λ e. accepted i l b ls (y.0 e), λ a. y.1 (is_good i l b ls a))
 
 -- ---- by the form alone
 
@@ -296,20 +311,55 @@ of_rises n h path (closed_leaf d) g = (record { cities = g.cities; cuts = g.cuts
 of_rises n h path (edge_split u v t s) g = (refl, (of_rises n h (path ++ absent (u - 1) (v - 1) ∷ []) t g.0, of_rises n h (path ++ present (u - 1) (v - 1) ∷ []) s g.1))
 of_rises n h path (clique_split q t s) g = (refl, (of_rises n h (path ++ two (from_zero q) ∷ []) t g.0, of_rises n h (path ++ four (from_zero q) ∷ []) s g.1))
 
+-- a bound by the form alone: any number, where one is told
+abbrev pub IsSaidBound : Option ℕ → ℕ → ℕ → Type 0
+IsSaidBound None l b = b ≡ l
+IsSaidBound (Some told) l b = told ≡ b
+
+pub its_bound : (told : Option ℕ) (l : ℕ) → IsSaidBound told l (bound_of l told)
+its_bound None l = refl
+its_bound (Some k) l = refl
+
+said_bound : (n : ℕ) (told : Option ℕ) (l b : ℕ) → IsToldBound (form_only n) told (l, b) → IsSaidBound told l b
+said_bound n None l b h = h
+said_bound n (Some k) l b h = h.0
+
+of_said : (n : ℕ) (told : Option ℕ) (l b : ℕ) → IsSaidBound told l b → IsToldBound (form_only n) told (l, b)
+of_said n None l b h = h
+of_said n (Some k) l b h = (h, refl)
+
 -- the lines are those of a value of the grammar
-pub record AreReadable (n : ℕ) (ls : List (List ℕ)) (l : ℕ) (p : Proof) : Type 0 where
+pub record AreReadable (n : ℕ) (ls : List (List ℕ)) (l b : ℕ) (p : Proof) : Type 0 where
   pub lines : ls ≡ lines p
   pub readable : IsReadable n p
   pub same : p.long ≡ l
+  pub bound : IsSaidBound p.bound l b
 
-pub form_is_readable : (n : ℕ) (ls : List (List ℕ)) (l : ℕ) → n < 2 ^ 32 → (verdict_by (form_only n) ls ≡ yes l) ↔ ((p : Proof) × AreReadable n ls l p)
-form_is_readable n ls l h =
-    let y = yes_is_good (form_only n) ls l h in (
-      λ e. let g = y.0 e in (g.0, record { lines = g.1; readable = record { lines = g.2; rise = rises_of n (record { long = l; cuts = g.0.cuts }) [] g.0.tree g.3.tree }; same = g.3.same_length }),
+pub form_is_readable : (n : ℕ) (ls : List (List ℕ)) (l b : ℕ) → n < 2 ^ 32 → (verdict_by (form_only n) ls ≡ yes l b) ↔ ((p : Proof) × AreReadable n ls l b p)
+form_is_readable n ls l b h =
+    let y = yes_is_good (form_only n) ls (l, b) h in (
+      λ e. let g = y.0 e in (
+        g.0,
+        record {
+          lines = g.1;
+          readable = record { lines = g.2; pairs = g.3.pairs; rise = rises_of n (record { long = l; bound = b; cuts = g.0.cuts }) [] g.0.tree g.3.tree };
+          same = g.3.same_length;
+          bound = said_bound n g.0.bound l b g.3.bound;
+        },
+      ),
       λ a. y.1 (
         a.0,
         a.1.lines,
         a.1.readable.lines,
-        record { size = refl; same_length = a.1.same; is_tour = refl; long = refl; cuts = all_true a.0.cuts; tree = of_rises n (record { long = l; cuts = a.0.cuts }) [] a.0.tree a.1.readable.rise },
+        record {
+          size = refl;
+          same_length = a.1.same;
+          bound = of_said n a.0.bound l b a.1.bound;
+          is_tour = refl;
+          long = refl;
+          pairs = a.1.readable.pairs;
+          cuts = all_true a.0.cuts;
+          tree = of_rises n (record { long = l; bound = b; cuts = a.0.cuts }) [] a.0.tree a.1.readable.rise;
+        },
       ),
     )

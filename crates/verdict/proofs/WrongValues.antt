@@ -2,20 +2,20 @@
 use Rattle.std.proofs.Common.{◌≡◌, ℕ, zero, suc, ◌+◌, ◌-◌, Bool, true, false, cond, ◌&&◌, List, [], ◌∷◌, ◌++◌, length, Option, Some, None, refl, sym, ap, ◌∙◌, arith}
 use Rattle.std.specs.Prelude.{nat_le, nat_lt, ◌==◌, ◌≢◌}
 use Rattle.std.specs.List.{AllByRecursion}
-use Rattle.std.proofs.lemmas.Bool.{and_parts, and_from, eq-eqb, eqb-true}
+use Rattle.std.proofs.lemmas.Bool.{and_parts, and_from, eq-eqb, eqb-true, lt-ltb}
 use Rattle.tspdef.specs.Instances.{Instance, length_in}
 use Rattle.tspdef.specs.Cuts.{IsCut}
 use Rattle.tspdef.specs.Paths.{Condition, absent, present, two, four, condition_at, is_decided, root}
 use Rattle.tspdef.specs.Bounds.{bound, needed}
-use Rattle.certdef.specs.Items.{Item, size_line, tour_line, subtour_line, handle_line, tooth_line, edge_line, clique_line, leaf_line, city_line, cut_line, condition_line, open_line, item_of, longest}
-use Rattle.certdef.specs.Proofs.{Listed, subtour_cut, comb_cut, Written, open_leaf, closed_leaf, edge_split, clique_split, Proof, lines, text}
+use Rattle.certdef.specs.Items.{Item, size_line, bound_line, tour_line, subtour_line, handle_line, tooth_line, pair_line, edge_line, clique_line, leaf_line, city_line, cut_line, condition_line, open_line, item_of, longest}
+use Rattle.certdef.specs.Proofs.{Listed, subtour_cut, comb_cut, odd_cut, Written, open_leaf, closed_leaf, edge_split, clique_split, Proof, lines, text}
 use Rattle.certdef.specs.Accepted.{from_zero, cut_of, cuts_of, closing_of, firsts, is_clique, name_cliques, LeavesRise, DepthsName, HasForm, most_bytes}
 use Rattle.certdef.specs.Tests.{Tests, verifier, is_tour_from_one, is_proper, is_cut, closes_leaf}
-use Rattle.certdef.specs.Verdicts.{Head, OpenDuals, Stage, wants_title, wants_size, wants_length, wants_tour, wants_count, wants_cut, wants_handle, wants_tooth, wants_trees, wants_duals, yes, no, Outcome, go, refused, after, with_cut, cuts_on, cut_end, teeth_on, duals_on, with_city, with_cut_dual, with_condition, fresh_duals, on_tour, on_size, on_cut, on_handle, on_tooth, on_tree, on_dual, is_end, line_step}
+use Rattle.certdef.specs.Verdicts.{Head, OpenDuals, Stage, wants_title, wants_size, wants_length, wants_bound, wants_tour, wants_count, wants_cut, wants_handle, wants_tooth, wants_odd_handle, wants_pair, wants_trees, wants_duals, yes, no, Outcome, go, refused, after, may_follow, with_cut, cuts_on, cut_end, teeth_on, pairs_on, duals_on, with_city, with_cut_dual, with_condition, fresh_duals, on_tour, on_bound, on_size, on_cut, on_handle, on_tooth, on_odd_handle, on_pair, on_tree, on_dual, is_end, line_step}
 use Rattle.certdef.specs.Bytes.{Reading, Read, reads, stops, start, line_on, byte_on, bytes_on, verdict_at_end, verdict}
-use Rattle.verdict.specs.WrongValues.{IsRightTree, IsRight, RefusedValuesAreWrong, RefusedLinesAreWrong}
+use Rattle.verdict.specs.WrongValues.{IsRightTree, bound_of, IsBelow, IsRight, RefusedValuesAreWrong, RefusedLinesAreWrong}
 use Rattle.verdict.proofs.Left.{all_named, Good}
-use Rattle.verdict.proofs.Runs.{AreGood, yes_is_good}
+use Rattle.verdict.proofs.Runs.{IsToldBound, AreGood, yes_is_good}
 use Rattle.verdict.proofs.Decisions.{yes_tour_from_one, yes_proper, yes_cut, z_below}
 use Rattle.verdict.proofs.Bytes.{lines_bytes}
 use Rattle.verdict.proofs.Values.{depths_at_root}
@@ -59,11 +59,12 @@ tests_for i k = record {
   root = root i;
   tour = λ cs. part k 3 (is_tour_from_one i cs);
   has_length = λ cs l. part k 4 (length_in i (from_zero cs) == l);
+  below = λ b l. part k 11 (nat_lt b l);
   cut = λ c. part k 5 (is_cut i.n (cut_of i.n c));
   decided = λ path u v. cond (k == 6) (is_decided path u v) false;
   proper = λ s. part k 5 (is_proper i.n (from_zero s));
   names = λ path d. is_clique (condition_at path d);
-  closes = λ l cs path d. part k 7 (closes_leaf i l cs path d);
+  closes = λ b cs path d. part k 7 (closes_leaf i b cs path d);
   opens = cond (k == 8) false true;
 }
 
@@ -114,21 +115,29 @@ teeth_same : (i : Instance) (k from : ℕ) (h : Head) (c t : ℕ) (s : List ℕ)
 teeth_same i k from h c zero s ts o kept e = cut_same i k from h c (comb_cut s ts) o kept e
 teeth_same i k from h c (suc t) s ts o kept e = e
 
+pairs_same : (i : Instance) (k from : ℕ) (h : Head) (c t : ℕ) (s : List ℕ) (ps : List (ℕ × ℕ)) (o : Outcome) → Kept k o → pairs_on (verifier i) from h c t s ps ≡ o → pairs_on (tests_for i k) from h c t s ps ≡ o
+pairs_same i k from h c zero s ps o kept e = cut_same i k from h c (odd_cut s ps) o kept e
+pairs_same i k from h c (suc t) s ps o kept e = e
+
 duals_same : (i : Instance) (k : ℕ) (h : Head) (ps : List (List Condition)) (d : OpenDuals) (a b c : ℕ) (o : Outcome) → Kept k o → duals_on (verifier i) h ps d a b c ≡ o → duals_on (tests_for i k) h ps d a b c ≡ o
-duals_same i k h ps d zero zero zero o kept e = by_part k 7 d.at (closes_leaf i h.long h.cuts d.path d.duals) (go (wants_trees h ps)) (go (wants_trees h ps)) o (λ f. f) kept e
+duals_same i k h ps d zero zero zero o kept e = by_part k 7 d.at (closes_leaf i h.bound h.cuts d.path d.duals) (go (wants_trees h ps)) (go (wants_trees h ps)) o (λ f. f) kept e
 duals_same i k h ps d (suc a) b c o kept e = e
 duals_same i k h ps d zero (suc b) c o kept e = e
 duals_same i k h ps d zero zero (suc c) o kept e = e
 
-size_same : (i : Instance) (k m : ℕ) (x : Item) (o : Outcome) → Kept k o → on_size (verifier i) m x ≡ o → on_size (tests_for i k) m x ≡ o
-size_same i k m (size_line c) o kept e = by_part k 2 m (c == i.n) (go wants_length) (go wants_length) o (λ f. f) kept e
-size_same i k m x o kept e = e
+size_same : (i : Instance) (k v m : ℕ) (x : Item) (o : Outcome) → Kept k o → on_size (verifier i) v m x ≡ o → on_size (tests_for i k) v m x ≡ o
+size_same i k v m (size_line c) o kept e = by_part k 2 m (c == i.n) (go (wants_length v)) (go (wants_length v)) o (λ f. f) kept e
+size_same i k v m x o kept e = e
 
-tour_same : (i : Instance) (k l m : ℕ) (x : Item) (o : Outcome) → Kept k o → on_tour (verifier i) l m x ≡ o → on_tour (tests_for i k) l m x ≡ o
-tour_same i k l m (tour_line cs) o kept e =
-    by_part k 3 m (is_tour_from_one i cs) (cond (length_in i (from_zero cs) == l) (go (wants_count l)) (refused 4 m)) (cond (part k 4 (length_in i (from_zero cs) == l)) (go (wants_count l)) (refused 4 m)) o
-    (λ f. by_part k 4 m (length_in i (from_zero cs) == l) (go (wants_count l)) (go (wants_count l)) o (λ g. g) kept f) kept e
-tour_same i k l m x o kept e = e
+bound_same : (i : Instance) (k l m : ℕ) (x : Item) (o : Outcome) → Kept k o → on_bound (verifier i) l m x ≡ o → on_bound (tests_for i k) l m x ≡ o
+bound_same i k l m (bound_line b) o kept e = by_part k 11 m (nat_lt b l) (go (wants_tour l b)) (go (wants_tour l b)) o (λ f. f) kept e
+bound_same i k l m x o kept e = e
+
+tour_same : (i : Instance) (k l b m : ℕ) (x : Item) (o : Outcome) → Kept k o → on_tour (verifier i) l b m x ≡ o → on_tour (tests_for i k) l b m x ≡ o
+tour_same i k l b m (tour_line cs) o kept e =
+    by_part k 3 m (is_tour_from_one i cs) (cond (length_in i (from_zero cs) == l) (go (wants_count l b)) (refused 4 m)) (cond (part k 4 (length_in i (from_zero cs) == l)) (go (wants_count l b)) (refused 4 m)) o
+    (λ f. by_part k 4 m (length_in i (from_zero cs) == l) (go (wants_count l b)) (go (wants_count l b)) o (λ g. g) kept f) kept e
+tour_same i k l b m x o kept e = e
 
 cut_line_same : (i : Instance) (k : ℕ) (h : Head) (c m : ℕ) (x : Item) (o : Outcome) → Kept k o → on_cut (verifier i) h c m x ≡ o → on_cut (tests_for i k) h c m x ≡ o
 cut_line_same i k h c m (subtour_line s) o kept e = cut_same i k m h c (subtour_cut s) o kept e
@@ -141,6 +150,15 @@ handle_same i k h c from t m x o kept e = e
 tooth_same : (i : Instance) (k : ℕ) (h : Head) (c from t : ℕ) (s : List ℕ) (ts : List (List ℕ)) (m : ℕ) (x : Item) (o : Outcome) → Kept k o → on_tooth (verifier i) h c from t s ts m x ≡ o → on_tooth (tests_for i k) h c from t s ts m x ≡ o
 tooth_same i k h c from t s ts m (tooth_line q) o kept e = teeth_same i k from h c t s (ts ++ q ∷ []) o kept e
 tooth_same i k h c from t s ts m x o kept e = e
+
+odd_handle_same : (i : Instance) (k : ℕ) (h : Head) (c from t m : ℕ) (x : Item) (o : Outcome) → Kept k o → on_odd_handle (verifier i) h c from t m x ≡ o → on_odd_handle (tests_for i k) h c from t m x ≡ o
+odd_handle_same i k h c from t m (handle_line s) o kept e = pairs_same i k from h c t s [] o kept e
+odd_handle_same i k h c from t m x o kept e = e
+
+pair_same : (i : Instance) (k : ℕ) (h : Head) (c from t : ℕ) (s : List ℕ) (ps : List (ℕ × ℕ)) (m : ℕ) (x : Item) (o : Outcome) → Kept k o → on_pair (verifier i) h c from t s ps m x ≡ o → on_pair (tests_for i k) h c from t s ps m x ≡ o
+pair_same i k h c from t s ps m (pair_line u v) o kept e =
+    in_form (may_follow ps (u, v)) m (pairs_on (verifier i) from h c t s (ps ++ (u, v) ∷ [])) (pairs_on (tests_for i k) from h c t s (ps ++ (u, v) ∷ [])) o (pairs_same i k from h c t s (ps ++ (u, v) ∷ []) o kept) e
+pair_same i k h c from t s ps m x o kept e = e
 
 tree_same : (i : Instance) (k : ℕ) (h : Head) (p : List Condition) (ps : List (List Condition)) (m : ℕ) (x : Item) (o : Outcome) → Kept k o → on_tree (verifier i) h p ps m x ≡ o → on_tree (tests_for i k) h p ps m x ≡ o
 tree_same i k h p ps m (edge_line u v) o kept e =
@@ -167,13 +185,16 @@ dual_same i k h ps d a b c m x o kept e = e
 step_same : (i : Instance) (k m : ℕ) (s : Stage) (x : Option Item) (o : Outcome) → Kept k o → line_step (verifier i) m s x ≡ o → line_step (tests_for i k) m s x ≡ o
 step_same i k m s None o kept e = e
 step_same i k m wants_title (Some x) o kept e = e
-step_same i k m wants_size (Some x) o kept e = size_same i k m x o kept e
-step_same i k m wants_length (Some x) o kept e = e
-step_same i k m (wants_tour l) (Some x) o kept e = tour_same i k l m x o kept e
-step_same i k m (wants_count l) (Some x) o kept e = e
+step_same i k m (wants_size v) (Some x) o kept e = size_same i k v m x o kept e
+step_same i k m (wants_length v) (Some x) o kept e = e
+step_same i k m (wants_bound l) (Some x) o kept e = bound_same i k l m x o kept e
+step_same i k m (wants_tour l b) (Some x) o kept e = tour_same i k l b m x o kept e
+step_same i k m (wants_count l b) (Some x) o kept e = e
 step_same i k m (wants_cut h c) (Some x) o kept e = cut_line_same i k h c m x o kept e
 step_same i k m (wants_handle h c from t) (Some x) o kept e = handle_same i k h c from t m x o kept e
 step_same i k m (wants_tooth h c from t s ts) (Some x) o kept e = tooth_same i k h c from t s ts m x o kept e
+step_same i k m (wants_odd_handle h c from t) (Some x) o kept e = odd_handle_same i k h c from t m x o kept e
+step_same i k m (wants_pair h c from t s ps) (Some x) o kept e = pair_same i k h c from t s ps m x o kept e
 step_same i k m (wants_trees h []) (Some x) o kept e = e
 step_same i k m (wants_trees h (p ∷ ps)) (Some x) o kept e = tree_same i k h p ps m x o kept e
 step_same i k m (wants_duals h ps d a b c) (Some x) o kept e = dual_same i k h ps d a b c m x o kept e
@@ -230,11 +251,11 @@ named_for i k path (d ∷ ds) e =
     let p = and_parts (is_clique (condition_at path d)) (name_cliques path ds) e in
     and_from (is_clique (condition_at path d)) (all_named (tests_for i k) path ds) p.0 (named_for i k path ds p.1)
 
-good_tree : (i : Instance) (k : ℕ) (h : Head) (path : List Condition) (t : Written) → LeavesRise i.n (length h.cuts) t → DepthsName path t → IsRightTree i k h.long h.cuts path t → Good (tests_for i k) h path t
+good_tree : (i : Instance) (k : ℕ) (h : Head) (path : List Condition) (t : Written) → LeavesRise i.n (length h.cuts) t → DepthsName path t → IsRightTree i k h.bound h.cuts path t → Good (tests_for i k) h path t
 good_tree i k h path open_leaf o w g = opens_if k (k == 8) refl g
 good_tree i k h path (closed_leaf d) o w g = (
   record { cities = o.cities; cuts = o.cuts; conds = o.conds; named = named_for i k path (firsts d.conds) w },
-  true_part k 7 (closes_leaf i h.long h.cuts path d) (λ e. z_below (needed h.long) (bound i path (closing_of i.n (cuts_of i.n h.cuts) d)) (g e)),
+  true_part k 7 (closes_leaf i h.bound h.cuts path d) (λ e. z_below (needed h.bound) (bound i path (closing_of i.n (cuts_of i.n h.cuts) d)) (g e)),
 )
 good_tree i k h path (edge_split u v a b) o w g = (
   false_if k 6 (k == 6) (is_decided path (u - 1) (v - 1)) refl g.0,
@@ -249,7 +270,11 @@ good_cuts : (i : Instance) (k : ℕ) (cs : List Listed) → (k ≡ 5 → AllByRe
 good_cuts i k [] f = tt
 good_cuts i k (c ∷ cs) f = (true_part k 5 (is_cut i.n (cut_of i.n c)) (λ e. yes_cut i.n (cut_of i.n c) (f e).0), good_cuts i k cs (λ e. (f e).1))
 
-are_good : (i : Instance) (k : ℕ) (p : Proof) → HasForm i.n p → IsRight i k p → AreGood (tests_for i k) (lines p) p.long
+good_bound : (i : Instance) (k l : ℕ) (told : Option ℕ) → (k ≡ 11 → IsBelow l told) → IsToldBound (tests_for i k) told (l, bound_of l told)
+good_bound i k l None f = refl
+good_bound i k l (Some b) f = (refl, true_part k 11 (nat_lt b l) (λ e. lt-ltb b l (f e)))
+
+are_good : (i : Instance) (k : ℕ) (p : Proof) → HasForm i.n p → IsRight i k p → AreGood (tests_for i k) (lines p) (p.long, bound_of p.long p.bound)
 are_good i k p f g = (
   p,
   refl,
@@ -257,10 +282,12 @@ are_good i k p f g = (
   record {
     size = true_part k 2 (p.cities == i.n) (λ e. eq-eqb p.cities i.n (g.size e));
     same_length = refl;
+    bound = good_bound i k p.long p.bound g.bound;
     is_tour = true_part k 3 (is_tour_from_one i p.tour) (λ e. let t = g.tour e in yes_tour_from_one i p.tour t.from_one t.is_tour t.canonical);
     long = true_part k 4 (length_in i (from_zero p.tour) == p.long) (λ e. eq-eqb (length_in i (from_zero p.tour)) p.long (g.long e));
+    pairs = f.readable.pairs;
     cuts = good_cuts i k p.cuts g.cuts;
-    tree = good_tree i k (record { long = p.long; cuts = p.cuts }) (root i) p.tree f.readable.rise (depths_at_root i p.tree f.depths) g.tree;
+    tree = good_tree i k (record { long = p.long; bound = bound_of p.long p.bound; cuts = p.cuts }) (root i) p.tree f.readable.rise (depths_at_root i p.tree f.depths) g.tree;
   },
 )
 
@@ -268,10 +295,11 @@ are_good i k p f g = (
 
 pub refused_values_are_wrong : RefusedValuesAreWrong
 refused_values_are_wrong i p k at h f few e = λ g.
-    let passes = (yes_is_good (tests_for i k) (lines p) p.long h).1 (are_good i k p f g) in
-    let accepted : verdict_at_end (bytes_on (tests_for i k) (reads start) (text p)) ≡ yes p.long = lines_bytes (tests_for i k) p.long 1 0 (go wants_title) (lines p) h (omega arith) passes in
+    let b = bound_of p.long p.bound in
+    let passes = (yes_is_good (tests_for i k) (lines p) (p.long, b) h).1 (are_good i k p f g) in
+    let accepted : verdict_at_end (bytes_on (tests_for i k) (reads start) (text p)) ≡ yes p.long b = lines_bytes (tests_for i k) (p.long, b) 1 0 (go wants_title) (lines p) h (omega arith) passes in
     let refuses = refused_same i k at (text p) (bytes_on (verifier i) (reads start) (text p)) refl e in
-    let never : no k at ≡ yes p.long = sym refuses ∙ accepted in cc
+    let never : no k at ≡ yes p.long b = sym refuses ∙ accepted in cc
 
 pub refused_lines_are_wrong : RefusedLinesAreWrong
 refused_lines_are_wrong i bytes k at m h t p more f few e = refused_values_are_wrong i p k at h f few (ap (verdict i) e ∙ t.always more)

@@ -43,5 +43,5 @@ abbrev pub CliquesAreDecided : Type 0
 CliquesAreDecided = (c : Option Condition) → (is_clique c ≡ true) ↔ IsClique c
 
 abbrev pub ClosedLeavesAreDecided : Type 0
-ClosedLeavesAreDecided = (i : Instance) (l : ℕ) (cs : List Listed) (path : List Condition) (d : Duals)
-    → (closes_leaf i l cs path d ≡ true) ↔ (needed l <ℤ bound i path (closing_of i.n (cuts_of i.n cs) d))
+ClosedLeavesAreDecided = (i : Instance) (b : ℕ) (cs : List Listed) (path : List Condition) (d : Duals)
+    → (closes_leaf i b cs path d ≡ true) ↔ (needed b <ℤ bound i path (closing_of i.n (cuts_of i.n cs) d))

@@ -1,7 +1,7 @@
 -- A reader of the form alone: it takes the lines of a text in order, and keeps counts in place of what it read. It leaves to its
--- caller another number of cities, and what a depth names.
+-- caller another number of cities, a bound that is not below the length, and what a depth names.
 use Rattle.std.specs.Prelude.{ℕ, zero, suc, ◌+◌, ◌-◌, Bool, true, false, ◌&&◌, ◌==◌, nat_lt, nat_le, if◌then◌else◌, List, [], ◌∷◌, Option, Some, None}
-use Rattle.certdef.specs.Items.{Item, title_line, size_line, length_line, tour_line, cuts_line, subtour_line, comb_line, handle_line, tooth_line, edge_line, clique_line, leaf_line, city_line, cut_line, condition_line, open_line, item_of}
+use Rattle.certdef.specs.Items.{Item, title_line, size_line, length_line, bound_line, tour_line, cuts_line, subtour_line, comb_line, handle_line, tooth_line, odd_line, pair_line, edge_line, clique_line, leaf_line, city_line, cut_line, condition_line, open_line, is_before, item_of}
 use Rattle.certdef.specs.Tests.{Tests}
 
 -- The lines of a leaf that are still to come, of each kind, and the least city, cut and depth that may come next.
@@ -16,14 +16,19 @@ pub record DualsLeft : Type 0 where
 -- which line must come: the head's, a cut's, or one of so many trees
 pub data Form : Type 0 where
   at_title : Form
-  at_size : Form
-  at_length : Form
+  at_size : (version : ℕ) → Form
+  at_length : (version : ℕ) → Form
+  -- the bound, in a text of the second version
+  at_bound : Form
   at_tour : Form
   at_count : Form
   -- a cut, and so many after it; so many were listed before it
   at_cut : (more listed : ℕ) → Form
   at_handle : (more listed teeth : ℕ) → Form
   at_tooth : (more listed teeth : ℕ) → Form
+  at_odd_handle : (more listed pairs : ℕ) → Form
+  -- a pair of an odd cut, and so many after it; the last pair before it, if any
+  at_pair : (more listed pairs : ℕ) → (last : Option (ℕ × ℕ)) → Form
   -- so many trees, where so many cuts are listed
   at_trees : (trees listed : ℕ) → Form
   -- lines of a leaf, and then so many trees
@@ -36,6 +41,15 @@ cuts_then (suc m) k = at_cut m k
 abbrev pub teeth_then : ℕ → ℕ → ℕ → Form
 teeth_then m k zero = cuts_then m (k + 1)
 teeth_then m k (suc t) = at_tooth m k t
+
+abbrev pub pairs_then : ℕ → ℕ → ℕ → Option (ℕ × ℕ) → Form
+pairs_then m k zero p = cuts_then m (k + 1)
+pairs_then m k (suc t) p = at_pair m k t p
+
+-- a pair may come behind the last one, if any, where pairs rise
+abbrev pub comes_behind : Option (ℕ × ℕ) → (ℕ × ℕ) → Bool
+comes_behind None q = true
+comes_behind (Some p) q = is_before p q
 
 -- where a leaf has no lines left, the next tree comes
 abbrev pub duals_then : ℕ → ℕ → DualsLeft → Form
@@ -67,16 +81,19 @@ form_tree r k _ = None
 abbrev pub form_cut : ℕ → ℕ → Item → Option Form
 form_cut m k (subtour_line s) = Some (cuts_then m (k + 1))
 form_cut m k (comb_line t) = Some (at_handle m k t)
+form_cut m k (odd_line t) = Some (at_odd_handle m k t)
 form_cut m k _ = None
 
 -- what comes after an item, where it stands at its place
 abbrev pub form_step : Form → Item → Option Form
-form_step at_title title_line = Some at_size
+form_step at_title (title_line v) = Some (at_size v)
 form_step at_title _ = None
-form_step at_size (size_line m) = Some at_length
-form_step at_size _ = None
-form_step at_length (length_line l) = Some at_tour
-form_step at_length _ = None
+form_step (at_size v) (size_line m) = Some (at_length v)
+form_step (at_size v) _ = None
+form_step (at_length v) (length_line l) = Some (if v == 1 then at_tour else at_bound)
+form_step (at_length v) _ = None
+form_step at_bound (bound_line b) = Some at_tour
+form_step at_bound _ = None
 form_step at_tour (tour_line cs) = Some at_count
 form_step at_tour _ = None
 form_step at_count (cuts_line m) = Some (cuts_then m 0)
@@ -86,6 +103,10 @@ form_step (at_handle m k t) (handle_line s) = Some (teeth_then m k t)
 form_step (at_handle m k t) _ = None
 form_step (at_tooth m k t) (tooth_line s) = Some (teeth_then m k t)
 form_step (at_tooth m k t) _ = None
+form_step (at_odd_handle m k t) (handle_line s) = Some (pairs_then m k t None)
+form_step (at_odd_handle m k t) _ = None
+form_step (at_pair m k t p) (pair_line u v) = if comes_behind p (u, v) then Some (pairs_then m k t (Some (u, v))) else None
+form_step (at_pair m k t p) _ = None
 form_step (at_trees zero k) x = None
 form_step (at_trees (suc r) k) x = form_tree r k x
 form_step (at_duals r k d) x = form_dual r k d x
@@ -131,10 +152,11 @@ form_only n = record {
   root = [];
   tour = λ cs. true;
   has_length = λ cs l. true;
+  below = λ b l. true;
   cut = λ c. true;
   decided = λ path u v. false;
   proper = λ s. true;
   names = λ path d. true;
-  closes = λ l cs path d. true;
+  closes = λ b cs path d. true;
   opens = true;
 }

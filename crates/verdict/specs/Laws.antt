@@ -17,9 +17,9 @@ pub record IsExactLine (n : ℕ) (bytes : List ℕ) (x : Item) : Type 0 where
 abbrev pub LinesAreExact : Type 0
 LinesAreExact = (n : ℕ) (bytes : List ℕ) (x : Item) → n < 2 ^ 32 → IsExactLine n bytes x
 
--- The verdict is yes with a length exactly on the texts of values of the grammar that are accepted with it.
+-- The verdict is yes with a length and a bound exactly on the texts of values of the grammar that are accepted with them.
 abbrev pub YesIsAcceptedText : Type 0
-YesIsAcceptedText = (i : Instance) (bytes : List ℕ) (l : ℕ) → i.n < 2 ^ 32 → (verdict i bytes ≡ yes l) ↔ IsAcceptedText i bytes l
+YesIsAcceptedText = (i : Instance) (bytes : List ℕ) (l b : ℕ) → i.n < 2 ^ 32 → (verdict i bytes ≡ yes l b) ↔ IsAcceptedText i bytes l b
 
 -- Bytes may come in pieces.
 abbrev pub ReadsInPieces : Type 0

@@ -27,9 +27,9 @@ ended_lines (b ∷ bs) = (if b == 10 then 1 else 0) + ended_lines bs
 
 -- The first q lines alone are a text that is accepted, or one that ends too early, which is told at the line that would come.
 abbrev pub NothingIsRefused : Instance → ℕ → List ℕ → Type 0
-NothingIsRefused i q bytes = (verdict i (first_lines q bytes) ≡ no 1 (q + 1)) ⊎ ((l : ℕ) × (verdict i (first_lines q bytes) ≡ yes l))
+NothingIsRefused i q bytes = (verdict i (first_lines q bytes) ≡ no 1 (q + 1)) ⊎ ((l : ℕ) × (b : ℕ) × (verdict i (first_lines q bytes) ≡ yes l b))
 
--- A text that begins with these bytes is refused at line `at` or later, if at all; or for a comb or a leaf that begins before.
+-- A text that begins with these bytes is refused at line `at` or later, if at all; or for a comb, an odd cut or a leaf that begins before.
 abbrev pub IsRefusedFrom : Instance → List ℕ → ℕ → Type 0
 IsRefusedFrom i front at = (more : List ℕ) (k line : ℕ) → verdict i (front ++ more) ≡ no k line → (at ≤ line) ⊎ (k ≡ 5) ⊎ (k ≡ 7)
 
@@ -38,10 +38,10 @@ pub record IsTold (i : Instance) (bytes : List ℕ) (k at m : ℕ) : Type 0 wher
   -- each text with the same first m lines has it, each that begins with these bytes has it, and none of them is accepted
   pub same : (other : List ℕ) → first_lines m other ≡ first_lines m bytes → verdict i other ≡ no k at
   pub always : (more : List ℕ) → verdict i (first_lines m bytes ++ more) ≡ no k at
-  pub never : (more : List ℕ) (l : ℕ) → ¬ IsAcceptedText i (first_lines m bytes ++ more) l
+  pub never : (more : List ℕ) (l b : ℕ) → ¬ IsAcceptedText i (first_lines m bytes ++ more) l b
   -- in fewer lines nothing is refused
   pub first : (q : ℕ) → q < m → NothingIsRefused i q bytes
-  -- the line is m itself, but for a comb or a leaf, which begins there
+  -- the line is m itself, but for a comb, an odd cut or a leaf, which begins there
   pub begins : 1 ≤ at
   pub ends : at ≤ m
   pub line : (at ≡ m) ⊎ (k ≡ 5) ⊎ (k ≡ 7)
@@ -69,7 +69,7 @@ pub record IsTooLong (i : Instance) (bytes : List ℕ) (k at : ℕ) : Type 0 whe
   pub most : length front ≡ most_bytes
   pub some : 0 < length rest
   pub line : at ≡ ended_lines front + 1
-  pub nothing : (verdict i front ≡ no 1 at) ⊎ ((l : ℕ) × (verdict i front ≡ yes l))
+  pub nothing : (verdict i front ≡ no 1 at) ⊎ ((l : ℕ) × (b : ℕ) × (verdict i front ≡ yes l b))
 
 -- Each refusal is told once a line is read, or the bytes end too early, or they are too many.
 abbrev pub RefusalsAreOfTheFront : Type 0
@@ -79,4 +79,4 @@ RefusalsAreOfTheFront = (i : Instance) (bytes : List ℕ) (k at : ℕ) → i.n <
 -- Bytes behind a tree stand behind the lines of an accepted text.
 abbrev pub TrailingIsBehindAccepted : Type 0
 TrailingIsBehindAccepted = (i : Instance) (bytes : List ℕ) (at : ℕ) → i.n < 2 ^ 32 → verdict i bytes ≡ no 9 at
-    → (l : ℕ) × IsAcceptedText i (first_lines (at - 1) bytes) l
+    → (l : ℕ) × (b : ℕ) × IsAcceptedText i (first_lines (at - 1) bytes) l b

@@ -1,5 +1,5 @@
 -- The law of refusals above the machine: what is wrong with each value whose text is refused.
-use Rattle.std.specs.Prelude.{◌≡◌, ◌≢◌, ℕ, ◌-◌, ◌^◌, ◌<◌, ◌≤◌, false, List, [], ◌∷◌, ◌++◌, length, ◌<ℤ◌}
+use Rattle.std.specs.Prelude.{◌≡◌, ◌≢◌, ℕ, ◌-◌, ◌^◌, ◌<◌, ◌≤◌, false, List, [], ◌∷◌, ◌++◌, length, Option, Some, None, ◌<ℤ◌}
 use Rattle.std.specs.List.{AllByRecursion}
 use Rattle.tspdef.specs.Sets.{IsProper}
 use Rattle.tspdef.specs.Instances.{Instance, length_in}
@@ -14,25 +14,37 @@ use Rattle.verdict.specs.Decided.{IsTourFromOne}
 use Rattle.verdict.specs.Refusals.{first_lines, IsTold}
 
 -- The tree has nothing that refusal k is told for: 5 a split by a set of all cities, 6 a split by a decided pair, a fixed one among
--- them, 7 a leaf whose bound is too weak for the length, 8 an open leaf.
-abbrev pub IsRightTree : Instance → (k long : ℕ) → List Listed → List Condition → Written → Type 0
-IsRightTree i k l cs path open_leaf = k ≢ 8
-IsRightTree i k l cs path (closed_leaf d) = k ≡ 7 → needed l <ℤ bound i path (closing_of i.n (cuts_of i.n cs) d)
-IsRightTree i k l cs path (edge_split u v a b) =
+-- them, 7 a leaf whose bound is too weak for the bound of the value, 8 an open leaf.
+abbrev pub IsRightTree : Instance → (k bound : ℕ) → List Listed → List Condition → Written → Type 0
+IsRightTree i k b cs path open_leaf = k ≢ 8
+IsRightTree i k b cs path (closed_leaf d) = k ≡ 7 → needed b <ℤ bound i path (closing_of i.n (cuts_of i.n cs) d)
+IsRightTree i k b cs path (edge_split u v x y) =
     (k ≡ 6 → is_decided path (u - 1) (v - 1) ≡ false)
-    × (IsRightTree i k l cs (path ++ absent (u - 1) (v - 1) ∷ []) a × IsRightTree i k l cs (path ++ present (u - 1) (v - 1) ∷ []) b)
-IsRightTree i k l cs path (clique_split s a b) =
+    × (IsRightTree i k b cs (path ++ absent (u - 1) (v - 1) ∷ []) x × IsRightTree i k b cs (path ++ present (u - 1) (v - 1) ∷ []) y)
+IsRightTree i k b cs path (clique_split s x y) =
     (k ≡ 5 → IsProper i.n (from_zero s))
-    × (IsRightTree i k l cs (path ++ two (from_zero s) ∷ []) a × IsRightTree i k l cs (path ++ four (from_zero s) ∷ []) b)
+    × (IsRightTree i k b cs (path ++ two (from_zero s) ∷ []) x × IsRightTree i k b cs (path ++ four (from_zero s) ∷ []) y)
+
+-- the bound of a value: the one that it tells, else its length
+abbrev pub bound_of : ℕ → Option ℕ → ℕ
+bound_of l None = l
+bound_of l (Some b) = b
+
+-- a bound that is told is below the length
+abbrev pub IsBelow : ℕ → Option ℕ → Type 0
+IsBelow l None = Unit {0}
+IsBelow l (Some b) = b < l
 
 -- The value has nothing that refusal k is told for: 2 another number of cities, 3 no canonical tour of the instance, 4 another length
--- than the tour's, 5 a cut that is none; or a fault of the tree. Nothing of a value is refused as 1, 9 or 10.
+-- than the tour's, 5 a cut that is none, 11 a bound that is told and is not below the length; or a fault of the tree. Nothing of a value
+-- is refused as 1, 9 or 10.
 pub record IsRight (i : Instance) (k : ℕ) (p : Proof) : Type 0 where
   pub size : k ≡ 2 → p.cities ≡ i.n
   pub tour : k ≡ 3 → IsTourFromOne i p.tour
   pub long : k ≡ 4 → length_in i (from_zero p.tour) ≡ p.long
+  pub bound : k ≡ 11 → IsBelow p.long p.bound
   pub cuts : k ≡ 5 → AllByRecursion (IsCut i.n) (cuts_of i.n p.cuts)
-  pub tree : IsRightTree i k p.long p.cuts (root i) p.tree
+  pub tree : IsRightTree i k (bound_of p.long p.bound) p.cuts (root i) p.tree
 
 -- Where the text of a value of the grammar, of at most 2^60 bytes, is refused, the value has what the refusal is told for.
 abbrev pub RefusedValuesAreWrong : Type 0

@@ -14,7 +14,7 @@ pub fn lines_are_exact()
     ensures { LinesAreExact }
 {}
 
-/// The verdict on bytes is yes with a length exactly where they are a text that is accepted with it.
+/// The verdict on bytes is yes with a length and a bound exactly where they are a text that is accepted with them.
 pub fn yes_is_accepted_text()
     ensures { YesIsAcceptedText }
 {}
