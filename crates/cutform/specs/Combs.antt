@@ -3,7 +3,7 @@ use Rattle.std.specs.Prelude.{◌≡◌, ℕ, ◌%◌, ◌≤◌, Bool, true, fa
 use Rattle.std.specs.List.{AllByRecursion}
 use Rattle.tspdef.specs.Sets.{IsSet, IsProper, meet, leaves, meets_any, AreDisjoint}
 use Rattle.cutform.specs.declared.error.CutError.{CutError}
-use Rattle.cutform.specs.declared.error.CutError.TheVariants.{NotProper, EvenTeeth, TeethMeet, ToothInside, ToothOutside, NoMemory}
+use Rattle.cutform.specs.declared.error.CutError.TheVariants.{NotProper, EvenTeeth, TeethMeet, ToothInside, ToothOutside, NotRising, PairInside, TooMany, NoMemory}
 
 -- a proper handle, and teeth that are sets, of n cities
 pub record AreProper (n : ℕ) (handle : List ℕ) (teeth : List (List ℕ)) : Type 0 where
@@ -30,6 +30,9 @@ IsDefect n handle teeth EvenTeeth = AreProper n handle teeth × ¬ AreOddMany te
 IsDefect n handle teeth TeethMeet = AreProper n handle teeth × AreOddMany teeth × ¬ AreDisjoint teeth
 IsDefect n handle teeth ToothInside = AreProper n handle teeth × AreOddMany teeth × AreDisjoint teeth × ¬ EachLeaves handle teeth
 IsDefect n handle teeth ToothOutside = AreProper n handle teeth × AreOddMany teeth × AreDisjoint teeth × EachLeaves handle teeth × ¬ EachEnters handle teeth
+IsDefect n handle teeth NotRising = ⊥
+IsDefect n handle teeth PairInside = ⊥
+IsDefect n handle teeth TooMany = ⊥
 IsDefect n handle teeth NoMemory = Unit {0}
 
 -- two of the sets have a city in common

@@ -1,3 +1,4 @@
 pub mod Cut
 pub mod Combs
+pub mod Odds
 pub mod Order

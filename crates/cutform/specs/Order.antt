@@ -1,5 +1,5 @@
 -- The order of cuts is total, its ties are equal cuts, and equal cuts are hashed alike.
-use Rattle.std.specs.Prelude.{◌≡◌, ℕ, List, [], ◌∷◌, ◌++◌, true, refl, IsTrue}
+use Rattle.std.specs.Prelude.{◌≡◌, ℕ, List, [], ◌∷◌, ◌++◌, map, true, refl, IsTrue}
 use Rattle.std.proofs.Common.{sym, ◌∙◌, ap, subst, arith}
 use Rattle.std.proofs.lemmas.Bool.{false≢true}
 use Rattle.std.proofs.lemmas.Bool.Decides.{nat_tests}
@@ -10,15 +10,31 @@ use Rattle.std.specs.Cmp.{IsTotalOrder, IsEquivalence, IsPartialOrder, partial_o
 use Rattle.std.specs.Cmp.Lexicographic.{slice_cmp}
 use Rattle.std.proofs.lemmas.Cmp.{nat_cmp_total, on_total, then_total, lists_total, eq_by_cmp_equiv}
 use Rattle.std.specs.Hash as fed
-use Rattle.tspdef.specs.Cuts.{Cut, subtour, comb, cities_of, sets_of, cut_cmp}
+use Rattle.tspdef.specs.Cuts.{Cut, subtour, comb, odd, cities_of, sets_of, pair_set, cut_cmp}
+use Rattle.cutform.specs.declared.cut.Kind.{Kind}
+use Rattle.cutform.specs.declared.cut.Kind.TheVariants.{Subtour, Comb, Odd}
+use Rattle.cutform.specs.Cut.{kind_of, wide_sets, pairs_of}
 
--- what hashing a cut writes: its kind, its sets, its number of cities
+-- the kinds in their order
+abbrev pub rank : Kind → ℕ
+rank Subtour = 0
+rank Comb = 1
+rank Odd = 2
+
 abbrev pub rank_of : Cut → ℕ
-rank_of (subtour n set) = 0
-rank_of (comb n handle teeth) = 1
+rank_of c = rank (kind_of c)
 
+-- the order of pairs: by their first cities, then by the others
+abbrev pub pair_cmp : ℕ × ℕ → ℕ × ℕ → Ordering
+pair_cmp p q = ordering_then (nat_cmp p.0 q.0) (nat_cmp p.1 q.1)
+
+-- what hashing a pair writes: its two cities
+abbrev pub pair_input : ℕ × ℕ → List (List ℕ)
+pair_input p = fed.u32 p.0 ++ fed.u32 p.1
+
+-- what hashing a cut writes: its kind, its sets, its pairs, its number of cities
 abbrev pub hash_input_of : Cut → List (List ℕ)
-hash_input_of c = fed.u8 (rank_of c) ++ fed.slice (fed.slice fed.u32) (sets_of c) ++ fed.u32 (cities_of c)
+hash_input_of c = fed.u8 (rank_of c) ++ fed.slice (fed.slice fed.u32) (wide_sets c) ++ fed.slice pair_input (pairs_of c) ++ fed.u32 (cities_of c)
 
 -- by kind, then by the lists of sets, then by the number of cities
 abbrev by_parts : Cut → Cut → Ordering
@@ -34,6 +50,11 @@ cut_cmp-parts (subtour n s) (subtour m t) = rw then-Equal refl
 cut_cmp-parts (subtour n s) (comb m h ts) = refl
 cut_cmp-parts (comb n h ts) (subtour m s) = refl
 cut_cmp-parts (comb n h ts) (comb m h' ts') = refl
+cut_cmp-parts (subtour n s) (odd m h ps) = refl
+cut_cmp-parts (odd n h ps) (subtour m s) = refl
+cut_cmp-parts (comb n h ts) (odd m h' ps) = refl
+cut_cmp-parts (odd n h ps) (comb m h' ts) = refl
+cut_cmp-parts (odd n h ps) (odd m h' ps') = refl
 
 same_total : {K : Type 0} {R S : K → K → Ordering} → ((x y : K) → R x y ≡ S x y) → IsTotalOrder S → IsTotalOrder R
 same_total e o = record {
@@ -70,6 +91,18 @@ lists-Equal R d (x ∷ xs) (y ∷ ys) e =
     let tail = lists-Equal R d xs ys p.1 in
     cc
 
+-- pairs are told by their sets
+same_pairs : (ps qs : List (ℕ × ℕ)) → map pair_set ps ≡ map pair_set qs → ps ≡ qs
+same_pairs [] [] e = refl
+same_pairs [] (q ∷ qs) e = cc
+same_pairs (p ∷ ps) [] e = cc
+same_pairs ((a, b) ∷ ps) ((c, d) ∷ qs) e =
+    let tail : map pair_set ps ≡ map pair_set qs = cc in
+    let ih = same_pairs ps qs tail in
+    let first : a ≡ c = cc in
+    let second : b ≡ d = cc in
+    cc
+
 pub cuts-Equal : (a b : Cut) → cut_cmp a b ≡ Equal → a ≡ b
 cuts-Equal (subtour n s) (subtour m t) e =
     let p = then_parts (slice_cmp nat_cmp s t) (nat_cmp n m) e in
@@ -81,6 +114,17 @@ cuts-Equal (comb n h ts) (subtour m s) e = cc
 cuts-Equal (comb n h ts) (comb m h' ts') e =
     let p = then_parts (slice_cmp (slice_cmp nat_cmp) (h ∷ ts) (h' ∷ ts')) (nat_cmp n m) e in
     let sets : h ∷ ts ≡ h' ∷ ts' = lists-Equal (slice_cmp nat_cmp) (lists-Equal nat_cmp numbers-Equal) (h ∷ ts) (h' ∷ ts') p.0 in
+    let size = numbers-Equal n m p.1 in
+    cc
+cuts-Equal (subtour n s) (odd m h ps) e = cc
+cuts-Equal (odd n h ps) (subtour m s) e = cc
+cuts-Equal (comb n h ts) (odd m h' ps) e = cc
+cuts-Equal (odd n h ps) (comb m h' ts) e = cc
+cuts-Equal (odd n h ps) (odd m h' ps') e =
+    let p = then_parts (slice_cmp (slice_cmp nat_cmp) (h ∷ map pair_set ps) (h' ∷ map pair_set ps')) (nat_cmp n m) e in
+    let sets : h ∷ map pair_set ps ≡ h' ∷ map pair_set ps' = lists-Equal (slice_cmp nat_cmp) (lists-Equal nat_cmp numbers-Equal) (h ∷ map pair_set ps) (h' ∷ map pair_set ps') p.0 in
+    let tail : map pair_set ps ≡ map pair_set ps' = cc in
+    let pairs = same_pairs ps ps' tail in
     let size = numbers-Equal n m p.1 in
     cc
 

@@ -1,16 +1,19 @@
 //! A cut as one value, with its order and its hash.
-ghost use Rattle.std.specs.Prelude.{◌≡◌, ℕ, ◌≤◌, ◌↔◌, List, fold, IsTrue, IfOk, OnOk, IfErr, IsErrOf, IsOkUnless};
+ghost use Rattle.std.specs.Prelude.{◌≡◌, ◌≢◌, ℕ, ◌≤◌, ◌↔◌, List, fold, IsTrue, IfOk, OnOk, IfErr, IsErrOf, IsOkUnless};
 ghost use Rattle.std.specs.Ordering.{nat_cmp, eq_by_cmp, as_partial_cmp};
 ghost use Rattle.std.specs.Cmp.Lexicographic.{slice_cmp};
 ghost use Rattle.std.specs.Hash as fed;
 ghost use Rattle.tspdef.specs.Sets.{IsProper};
-ghost use Rattle.tspdef.specs.Cuts.{subtour, comb, cities_of, sets_of, right_side, coefficient, IsComb, IsCut, HoldsOf, cut_cmp};
+ghost use Rattle.tspdef.specs.Cuts.{subtour, comb, odd, cities_of, sets_of, right_side, coefficient, IsComb, IsOdd, IsCut, HoldsOf, cut_cmp};
 ghost use Rattle.tspdef.specs.Instances.{Instance, IsTourOf};
 ghost use Rattle.cutform.specs.Combs.{IsDefect};
-ghost use Rattle.cutform.specs.Cut.{cities_of_each, kind_of};
+ghost use Rattle.cutform.specs.Odds.{IsOddDefect};
+ghost use Rattle.cutform.specs.Cut.{cities_of_each, kind_of, wide_sets, pairs_of};
+ghost use Rattle.cutform.specs.Order.{rank};
 
-use crate::comb;
 use crate::error::CutError;
+use crate::pairs::{compare_pairs, crossed_pairs, hash_pairs, with_pairs};
+use crate::{comb, odd};
 use cyc::CitySet;
 use std::alloc::{AllocError, Global};
 use std::cmp::Ordering;
@@ -24,15 +27,19 @@ pub enum Kind {
     Subtour,
     /// A handle and its teeth (Grötschel and Padberg 1979).
     Comb,
+    /// A handle and an odd number of pairs that cross it (Edmonds 1965; Padberg and Rao 1982).
+    Odd,
 }
 
-/// A cut of n cities. Contracts see its kind, n and its sets as one value, and equal cuts are one value.
+/// A cut of n cities. Contracts see its kind, n, its sets and its pairs as one value, and equal cuts are one value.
 #[derive(Debug, Drop)]
 pub struct Cut {
     kind: Kind,
     n: u32,
-    // a comb's handle, then its teeth
+    // a comb's handle, then its teeth; an odd cut's handle
     sets: Vec<CitySet>,
+    // the pairs of an odd cut
+    pairs: Vec<(u32, u32)>,
 }
 
 impl Model for Cut {
@@ -41,9 +48,9 @@ impl Model for Cut {
 
     ghost Value = { cuts.Cut };
 
-    ghost view = { λ c. cut_of c.kind c.n (cities_of_each c.sets.items) };
+    ghost view = { λ c. cut_of c.kind c.n (cities_of_each c.sets.items) c.pairs.items };
 
-    ghost invariant = { λ c. MakeCut c.kind c.n (cities_of_each c.sets.items) };
+    ghost invariant = { λ c. MakeCut c.kind c.n (cities_of_each c.sets.items) c.pairs.items };
 }
 
 impl Cut {
@@ -64,6 +71,7 @@ impl Cut {
             kind: Kind::Subtour,
             n,
             sets,
+            pairs: Vec::new(alloc),
         })
     }
 
@@ -82,6 +90,26 @@ impl Cut {
             kind: Kind::Comb,
             n,
             sets,
+            pairs: Vec::new(alloc),
+        })
+    }
+
+    /// The odd cut of a handle and some pairs.
+    pub fn odd(alloc: Global, handle: CitySet, pairs: Vec<(u32, u32)>) -> Result<Cut, CutError>
+        ensures made { IfOk result (λ c. c ≡ odd handle.n handle.cities pairs.items) }
+        ensures is_odd { OnOk result (IsOdd handle.n handle.cities pairs.items) }
+        ensures complete { IsOdd handle.n handle.cities pairs.items → IsOkUnless result CutError.NoMemory }
+        ensures refused { IfErr result (IsOddDefect handle.n handle.cities pairs.items) }
+    {
+        odd::check(&handle, &pairs)?;
+        let n = handle.n();
+        let mut sets = Vec::new(alloc);
+        sets.push(handle)?;
+        Ok(Cut {
+            kind: Kind::Odd,
+            n,
+            sets,
+            pairs,
         })
     }
 
@@ -93,6 +121,7 @@ impl Cut {
             kind: self.kind,
             n: self.n,
             sets: copy_sets(alloc, &self.sets)?,
+            pairs: Vec::from_slice(alloc, &self.pairs)?,
         })
     }
 
@@ -113,11 +142,26 @@ impl Cut {
         self.kind
     }
 
-    /// Its sets; a comb's handle, then its teeth in their order.
+    /// Its sets other than pairs: the set of a subtour cut; a comb's handle, then its teeth in their order; an odd cut's handle.
     pub fn sets(&self) -> &[CitySet]
-        ensures { cities_of_each result.now ≡ sets_of self.now }
+        ensures { cities_of_each result.now ≡ wide_sets self.now }
     {
         &self.sets
+    }
+
+    /// The pairs of an odd cut, in rising order; none of a cut of another kind.
+    pub fn pairs(&self) -> &[(u32, u32)]
+        ensures { result.now ≡ pairs_of self.now }
+    {
+        &self.pairs
+    }
+
+    /// Copies of all its sets: those other than pairs, then each pair as a set of two cities.
+    pub fn all_sets(&self, alloc: Global) -> Result<Vec<CitySet>, AllocError>
+        ensures { IfOk result (λ v. cities_of_each v.items ≡ sets_of self.now) }
+    {
+        let sets = copy_sets(alloc, &self.sets)?;
+        with_pairs(alloc, self.n, sets, &self.pairs)
     }
 
     /// What the crossings of its sets by a tour add up to at least.
@@ -128,25 +172,21 @@ impl Cut {
         match self.kind {
             Kind::Subtour => 2,
             Kind::Comb => 3 * (self.sets.len() as u32 - 1) + 1,
+            Kind::Odd => 3 * self.pairs.len() as u32 + 1,
         }
     }
 
-    /// How many of its sets have exactly one of u and v: 3 at most.
+    /// How many of its sets have exactly one of u and v: 3 at most, but of an odd cut 3,999.
     pub fn coef(&self, u: u32, v: u32) -> u32
         ensures value { result ≡ coefficient (sets_of self.now) u v }
-        ensures bound { result ≤ 3 }
+        ensures bound { result ≤ 3999 }
+        ensures few { kind_of self.now ≢ Kind.Odd → result ≤ 3 }
     {
-        let mut count = 0;
-        for set in &self.sets {
-            if set.contains(u) != set.contains(v) {
-                count += 1;
-            }
-        }
-        count
+        crossed_sets(&self.sets, u, v) + crossed_pairs(&self.pairs, u, v)
     }
 }
 
-/// Equality is that of the value: of kind, n and the sets in their order.
+/// Equality is that of the value: of kind, n, and the sets and the pairs in their order.
 impl PartialEq for Cut {
     ghost use Rattle.std.specs.Cmp.{partial_equiv_from_equiv};
     ghost use Rattle.cutform.specs.Order.{equal_cuts};
@@ -181,7 +221,8 @@ impl PartialOrd for Cut {
     }
 }
 
-/// Subtour cuts come before combs; cuts of one kind go by their sets, one after the other, and then by n.
+/// Subtour cuts come before combs, and those before odd cuts; cuts of one kind go by their sets, one after the other, and then
+/// by n.
 impl Ord for Cut {
     ghost use Rattle.std.specs.Prelude.{refl};
     ghost use Rattle.cutform.specs.Order.{ordered_cuts};
@@ -195,11 +236,13 @@ impl Ord for Cut {
     ghost matches_eq = { λ _ _. refl };
 
     fn cmp(&self, other: &Self) -> Ordering {
-        match (self.kind, other.kind) {
-            (Kind::Subtour, Kind::Comb) => Ordering::Less,
-            (Kind::Comb, Kind::Subtour) => Ordering::Greater,
-            _ => compare_sets(&self.sets, &other.sets).then(self.n.cmp(&other.n)),
+        let order = rank(self.kind).cmp(&rank(other.kind));
+        if order.is_ne() {
+            return order;
         }
+        compare_sets(&self.sets, &other.sets)
+            .then(compare_pairs(&self.pairs, &other.pairs))
+            .then(self.n.cmp(&other.n))
     }
 }
 
@@ -211,13 +254,36 @@ impl Hash for Cut {
     ghost respects_eq = { equal_cuts_alike };
 
     fn hash<H: Hasher>(&self, state: &mut H) {
-        match self.kind {
-            Kind::Subtour => state.write_u8(0),
-            Kind::Comb => state.write_u8(1),
-        }
+        state.write_u8(rank(self.kind));
         hash_sets(&self.sets, state);
+        hash_pairs(&self.pairs, state);
         self.n.hash(state);
     }
+}
+
+// The place of a kind in the order of cuts.
+fn rank(kind: Kind) -> u8
+    ensures { result ≡ rank kind }
+{
+    match kind {
+        Kind::Subtour => 0,
+        Kind::Comb => 1,
+        Kind::Odd => 2,
+    }
+}
+
+// How many of the sets have exactly one of u and v.
+fn crossed_sets(sets: &[CitySet], u: u32, v: u32) -> u32
+    requires few { coefficient (cities_of_each sets.now) u v ≤ 3999 }
+    ensures { result ≡ coefficient (cities_of_each sets.now) u v }
+{
+    let mut count = 0;
+    for set in sets {
+        if set.contains(u) != set.contains(v) {
+            count += 1;
+        }
+    }
+    count
 }
 
 // Compares the cities of one set after the other.

@@ -162,11 +162,11 @@ pair_follows n path (four s) h = tt
 
 -- a part of what a path changes in the sum over all pairs
 pub changes_size : (i : Instance) (path : List Condition) (c : Closing) (x : ℤ) (p q : List Condition) → IsInstance i → IsClosing i.n path c
-    → x +ℤ terms i.n (reduced_cost i path c) p ≡ terms i.n (reduced_cost i path c) q → IsWithin (2 ^ 101) x
+    → x +ℤ terms i.n (reduced_cost i path c) p ≡ terms i.n (reduced_cost i path c) q → IsWithin (2 ^ 110) x
 changes_size i path c x p q is h e =
     let size = λ (u v : ℕ). reduced_cost_size i path c u v is h in
-    let a = terms_size (reduced_cost i path c) (2 ^ 77) i.n p is.few size in
-    let b = terms_size (reduced_cost i path c) (2 ^ 77) i.n q is.few size in
+    let a = terms_size (reduced_cost i path c) (2 ^ 87) i.n p is.few size in
+    let b = terms_size (reduced_cost i path c) (2 ^ 87) i.n q is.few size in
     record { low = omega (arith, ints); high = omega (arith, ints) }
 
 -- one condition less is left

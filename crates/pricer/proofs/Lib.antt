@@ -6,6 +6,7 @@ pub mod SumSteps
 pub mod TrailLemmas
 pub mod ListLemmas
 pub mod SpreadLemmas
+pub mod MarkLemmas
 pub mod RowLemmas
 pub mod RingLemmas
 pub mod DegreeLemmas

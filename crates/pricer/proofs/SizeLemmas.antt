@@ -10,12 +10,13 @@ use Rattle.std.proofs.lemmas.Bool.{cond_both}
 use Rattle.tspdef.specs.Tours.{crosses}
 use Rattle.tspdef.specs.Sets.{has}
 use Rattle.tspdef.specs.Instances.{Instance, IsInstance, dist}
-use Rattle.tspdef.specs.Cuts.{Cut, IsCut, coefficient, right_side}
+use Rattle.tspdef.specs.Cuts.{Cut, subtour, comb, odd, IsCut, coefficient, right_side}
 use Rattle.tspdef.specs.Paths.{Condition, fixed, absent, present, two, four, is_absent, is_present, condition_at}
 use Rattle.tspdef.specs.Closings.{Closing, IsDualSize, IsClosing}
 use Rattle.tspdef.specs.Sums.{sum_below, sum_pairs}
 use Rattle.tspdef.specs.Bounds.{Row, at_least, exactly, cut_rows, condition_row, condition_rows, price, worth, city_dual, reduced_cost, pair_term, bound}
 use Rattle.tspdef.proofs.SmallCuts.{cuts_are_small}
+use Rattle.cutform.proofs.PartLemmas.{coefficient_few}
 use Rattle.pricer.specs.Sizes.{IsWithin}
 
 pub within_zero : (m : ℕ) → IsWithin m (pos 0)
@@ -48,23 +49,28 @@ term_size path r m u v h = cond_both (is_present path u v) (r u v) (cond (is_abs
 
 -- ---- rows
 
-pub price_cuts_size : (n : ℕ) (qs : List (Cut × ℕ)) (u v : ℕ) → AllByRecursion (λ q. IsCut n q.0) qs → AllByRecursion (λ q. IsDualSize q.1) qs
-    → (pos 0 ≤ℤ (price (cut_rows qs) u v)) × ((price (cut_rows qs) u v) ≤ℤ pos (2 ^ 62 * 3 * length qs))
-price_cuts_size n [] u v cuts sizes = (omega (arith, ints), omega (arith, ints))
-price_cuts_size n (q ∷ qs) u v cuts sizes =
-    let ih = price_cuts_size n qs u v cuts.1 sizes.1 in
-    let few = (cuts_are_small n q.0 cuts.0).crossed u v in
+-- the right side of a cut
+right_few : (n : ℕ) (c : Cut) → n ≤ 2000 → IsCut n c → right_side c ≤ 12286
+right_few n (subtour m s) l is = omega arith
+right_few n (comb m h ts) l is = let right = (cuts_are_small n (comb m h ts) is).right in omega arith
+right_few n (odd m h ps) l is = let right = (cuts_are_small n (odd m h ps) is).right in omega arith
+
+pub price_cuts_size : (n : ℕ) (qs : List (Cut × ℕ)) (u v : ℕ) → n ≤ 2000 → AllByRecursion (λ q. IsCut n q.0) qs → AllByRecursion (λ q. IsDualSize q.1) qs
+    → (pos 0 ≤ℤ (price (cut_rows qs) u v)) × ((price (cut_rows qs) u v) ≤ℤ pos (2 ^ 62 * 3999 * length qs))
+price_cuts_size n [] u v l cuts sizes = (omega (arith, ints), omega (arith, ints))
+price_cuts_size n (q ∷ qs) u v l cuts sizes =
+    let ih = price_cuts_size n qs u v l cuts.1 sizes.1 in
+    let few = coefficient_few n q.0 u v l cuts.0 in
     let big = sizes.0.1 in
     let most = mul-le-mul big few in
     (omega (arith, ints), omega (arith, ints))
 
 pub worth_cuts_size : (n : ℕ) (qs : List (Cut × ℕ)) → n ≤ 2000 → AllByRecursion (λ q. IsCut n q.0) qs → AllByRecursion (λ q. IsDualSize q.1) qs
-    → (pos 0 ≤ℤ (worth (cut_rows qs))) × ((worth (cut_rows qs)) ≤ℤ pos (2 ^ 62 * 6002 * length qs))
+    → (pos 0 ≤ℤ (worth (cut_rows qs))) × ((worth (cut_rows qs)) ≤ℤ pos (2 ^ 62 * 12286 * length qs))
 worth_cuts_size n [] l cuts sizes = (omega (arith, ints), omega (arith, ints))
 worth_cuts_size n (q ∷ qs) l cuts sizes =
     let ih = worth_cuts_size n qs l cuts.1 sizes.1 in
-    let right = (cuts_are_small n q.0 cuts.0).right in
-    let few : right_side q.0 ≤ 6002 = omega arith in
+    let few = right_few n q.0 l cuts.0 in
     let big = sizes.0.1 in
     let most = mul-le-mul big few in
     (omega (arith, ints), omega (arith, ints))
@@ -129,12 +135,13 @@ city_size n path c k h = cities_size c.city k h.sizes.city
 
 -- ---- a closing
 
-pub reduced_cost_size : (i : Instance) (path : List Condition) (c : Closing) (u v : ℕ) → IsInstance i → IsClosing i.n path c → IsWithin (2 ^ 77) (reduced_cost i path c u v)
+pub reduced_cost_size : (i : Instance) (path : List Condition) (c : Closing) (u v : ℕ) → IsInstance i → IsClosing i.n path c → IsWithin (2 ^ 87) (reduced_cost i path c u v)
 reduced_cost_size i path c u v is h =
+    let few = is.few in
     let d : dist i u v < 2 ^ 30 = is.small _ in
     let a = city_size i.n path c u h in
     let b = city_size i.n path c v h in
-    let cuts = price_cuts_size i.n c.cuts u v h.cuts h.sizes.cuts in
+    let cuts = price_cuts_size i.n c.cuts u v few h.cuts h.sizes.cuts in
     let conds = price_conds_size path c.conds u v h.sizes.conds in
     let many = h.counts.cuts in
     let more = h.counts.conds in
@@ -150,10 +157,10 @@ terms_size r m n path l h =
     let s = mul-le-mul_left m (square_size n l) in
     record { low = omega (arith, ints); high = omega (arith, ints) }
 
-pub bound_size : (i : Instance) (path : List Condition) (c : Closing) → IsInstance i → IsClosing i.n path c → IsWithin (2 ^ 100) (bound i path c)
+pub bound_size : (i : Instance) (path : List Condition) (c : Closing) → IsInstance i → IsClosing i.n path c → IsWithin (2 ^ 110) (bound i path c)
 bound_size i path c is h =
     let few = is.few in
-    let pairs = terms_size (reduced_cost i path c) (2 ^ 77) i.n path few (λ u v. reduced_cost_size i path c u v is h) in
+    let pairs = terms_size (reduced_cost i path c) (2 ^ 87) i.n path few (λ u v. reduced_cost_size i path c u v is h) in
     let city = sum_below_size (city_dual c) (2 ^ 62) i.n (λ k l. city_size i.n path c k h) in
     let cuts = worth_cuts_size i.n c.cuts few h.cuts h.sizes.cuts in
     let conds = worth_conds_size path c.conds h.sizes.conds in

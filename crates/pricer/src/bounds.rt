@@ -3,9 +3,10 @@
 //! A set with exactly one of two cities has the first, or the second, but not both. So a pair's reduced cost is its distance
 //! less the prices of its cities, where a city's price is its dual and those of the sets that have it, and twice the
 //! duals of the sets that have both. The prices are one array; the duals that a city shares with others are a second one,
-//! filled for each city anew, so that the sets cost n times their total size and not a look at each set for each pair.
+//! filled anew for each city that a set holds, so that the sets cost n times their total size and not a look at each set for
+//! each pair.
 
-ghost use Rattle.std.specs.Prelude.{◌≡◌, ℕ, ◌*◌, ◌^◌, ◌<◌, ◌≤◌, [], List, length, IfSome, pos, neg_ℤ, ◌+ℤ◌, ◌-ℤ◌, ◌≤ℤ◌, slice_index_or};
+ghost use Rattle.std.specs.Prelude.{◌≡◌, ℕ, ◌*◌, ◌^◌, ◌<◌, ◌≤◌, [], List, length, IfSome, pos, neg_ℤ, ◌+ℤ◌, ◌-ℤ◌, ◌≤ℤ◌, false, slice_index_or};
 ghost use Rattle.std.specs.Int.{int_min};
 ghost use Rattle.tspdef.specs.Tours.{steps};
 ghost use Rattle.tspdef.specs.Paths.{Obeys};
@@ -14,12 +15,13 @@ ghost use Rattle.tspdef.specs.Closings.{IsClosing};
 ghost use Rattle.tspdef.specs.Sums.{sum_below, sum_pairs};
 ghost use Rattle.tspdef.specs.Bounds as defs;
 ghost use Rattle.pricer.specs.Sizes.{IsWithin};
+ghost use Rattle.pricer.specs.Marks.{is_marked};
 ghost use Rattle.pricer.specs.Prices.{at, AreSmall, price_of, shared_by, terms};
 
 use crate::closing::Closing;
 use crate::decided::changes;
 use crate::duals::{city_sum, cliques_worth, cuts_worth};
-use crate::holding::is_held;
+use crate::holding::mark_held;
 use crate::numbers::{SCALE, signed};
 use crate::rows::{bare_row_loss, narrow, row_loss};
 use crate::spread::{spread_cliques, spread_cuts};
@@ -69,7 +71,7 @@ pub fn bound_on<'a, T: Trail<'a>>(instance: &Instance, trail: T, closing: &Closi
 /// What the duals and the decided pairs add, less what all pairs lose.
 fn balance(worth: i128, changes: i128, losses: u128) -> i128
     requires worth { IsWithin (2 ^ 89) worth }
-    requires changes { IsWithin (2 ^ 101) changes }
+    requires changes { IsWithin (2 ^ 110) changes }
     requires losses { losses ≤ 2 ^ 125 }
     ensures { result ≡ worth +ℤ changes -ℤ pos losses }
 {
@@ -89,6 +91,13 @@ fn small_zeros() -> [i64; CITIES]
     ensures { length result ≡ 2000 }
 {
     [0; CITIES]
+}
+
+/// No mark on any city.
+fn unmarked() -> [bool; CITIES]
+    ensures { length result ≡ 2000 }
+{
+    [false; CITIES]
 }
 
 /// What the duals alone add to the bound.
@@ -187,9 +196,37 @@ fn rows<'a, T: Trail<'a>>(
     ensures value { neg_ℤ (pos result) ≡ terms instance.now.n (defs.reduced_cost instance.now (T.conditions trail) closing.now) [] }
     ensures size { result ≤ 2 ^ 125 }
 {
+    let n = instance.n();
+    let mut marks = unmarked();
+    mark_held(n, trail, closing, &mut marks);
+    let mut shared = zeros();
+    let room = &mut shared[..n as usize];
+    marked_rows(instance, trail, closing, price, small, &marks, room)
+}
+
+/// The same, with the cities that sets hold marked, and with room for a number for each city.
+fn marked_rows<'a, T: Trail<'a>>(
+    instance: &Instance,
+    trail: T,
+    closing: &Closing,
+    price: &[i128],
+    small: Option<&[i64]>,
+    marks: &[bool],
+    shared: &mut [i128],
+) -> u128
+    requires cities { T.cities trail ≡ instance.now.n }
+    requires small { IfSome small (λ s. AreSmall price.now s.now) }
+    requires closing { IsClosing instance.now.n (T.conditions trail) closing.now }
+    requires long { instance.now.n ≤ length price.now }
+    requires price { (c : ℕ) → at price.now c ≡ price_of (T.conditions trail) closing.now c }
+    requires marks { (u : ℕ) → is_marked marks.now u ≡ false → (c : ℕ) → shared_by (T.conditions trail) closing.now u c ≡ pos 0 }
+    requires room { length shared.old ≡ instance.now.n }
+    ensures value { neg_ℤ (pos result) ≡ terms instance.now.n (defs.reduced_cost instance.now (T.conditions trail) closing.now) [] }
+    ensures size { result ≤ 2 ^ 125 }
+{
     let mut total: u128 = 0;
     for v in 0..instance.n() {
-        total += row(instance, trail, closing, price, small, v);
+        total += row(instance, trail, closing, price, small, marks, shared, v);
     }
     total
 }
@@ -201,6 +238,8 @@ fn row<'a, T: Trail<'a>>(
     closing: &Closing,
     price: &[i128],
     small: Option<&[i64]>,
+    marks: &[bool],
+    shared: &mut [i128],
     v: u32,
 ) -> u128
     requires cities { T.cities trail ≡ instance.now.n }
@@ -209,23 +248,34 @@ fn row<'a, T: Trail<'a>>(
     requires closing { IsClosing instance.now.n (T.conditions trail) closing.now }
     requires long { instance.now.n ≤ length price.now }
     requires price { (c : ℕ) → at price.now c ≡ price_of (T.conditions trail) closing.now c }
+    requires marks { (u : ℕ) → is_marked marks.now u ≡ false → (c : ℕ) → shared_by (T.conditions trail) closing.now u c ≡ pos 0 }
+    requires room { length shared.old ≡ instance.now.n }
     requires city { v < instance.now.n }
     ensures value { neg_ℤ (pos result) ≡ sum_below (λ u. int_min (pos 0) (defs.reduced_cost instance.now (T.conditions trail) closing.now u v)) v }
     ensures size { result ≤ 2 ^ 103 * 2000 }
 {
-    if is_held(trail, closing, v) {
-        shared_row(instance, trail, closing, price, v)
+    if is_at(marks, v) {
+        shared_row(instance, trail, closing, price, shared, v)
     } else {
         bare_row_loss(instance, v, price, small)
     }
 }
 
-/// The same for a city that a set holds.
+/// Whether a city is marked.
+#[inline]
+fn is_at(marks: &[bool], city: u32) -> bool
+    ensures { result ≡ is_marked marks.now city }
+{
+    marks.get(city as usize).copied().unwrap_or(false)
+}
+
+/// The same for a city that a set holds. The shared duals of the row before are cleared first.
 fn shared_row<'a, T: Trail<'a>>(
     instance: &Instance,
     trail: T,
     closing: &Closing,
     price: &[i128],
+    shared: &mut [i128],
     v: u32,
 ) -> u128
     requires cities { T.cities trail ≡ instance.now.n }
@@ -233,13 +283,14 @@ fn shared_row<'a, T: Trail<'a>>(
     requires closing { IsClosing instance.now.n (T.conditions trail) closing.now }
     requires long { instance.now.n ≤ length price.now }
     requires price { (c : ℕ) → at price.now c ≡ price_of (T.conditions trail) closing.now c }
+    requires room { length shared.old ≡ instance.now.n }
     requires city { v < instance.now.n }
     ensures value { neg_ℤ (pos result) ≡ sum_below (λ u. int_min (pos 0) (defs.reduced_cost instance.now (T.conditions trail) closing.now u v)) v }
     ensures size { result ≤ 2 ^ 103 * 2000 }
 {
-    let mut shared = zeros();
-    lay_shared(instance, trail, closing, &mut shared, v);
-    row_loss(instance, v, price[v as usize], price, &shared)
+    shared.fill(0);
+    lay_shared(instance, trail, closing, shared, v);
+    row_loss(instance, v, price[v as usize], price, shared)
 }
 
 /// Writes, for each city, the duals of the sets that have it and v.

@@ -200,7 +200,36 @@ fn comb(alloc: Global, n: u32, first: u32) -> Result<(Cut, plain::Cut), Fail> {
     Ok((cut, plain))
 }
 
-/// A subtour cut of some cities, and a comb.
+/// An odd cut of six of the cities, from the first one on: a handle of three, and some of its pairs with the others, of which
+/// several may share a city.
+fn odd(
+    alloc: Global,
+    numbers: &mut Numbers,
+    n: u32,
+    first: u32,
+) -> Result<(Cut, plain::Cut), Fail> {
+    let first = first % (n.max(6) - 5);
+    let handle = [first, first + 1, first + 2];
+    let mut pairs = Vec::new(alloc);
+    for u in &handle {
+        for v in first + 3..first + 6 {
+            if numbers.below(2) == 0 {
+                pairs.push((*u, v))?;
+            }
+        }
+    }
+    if pairs.len() % 2 == 0 && pairs.pop().is_none() {
+        pairs.push((first, first + 3))?;
+    }
+    let plain = plain::Cut::Odd(
+        Vec::from_slice(alloc, &handle)?,
+        Vec::from_slice(alloc, &pairs)?,
+    );
+    let cut = Cut::odd(alloc, set_of(alloc, n, &handle)?, pairs)?;
+    Ok((cut, plain))
+}
+
+/// A subtour cut of some cities, a comb, and an odd cut.
 fn cuts(
     alloc: Global,
     numbers: &mut Numbers,
@@ -219,6 +248,13 @@ fn cuts(
     }
     if numbers.below(3) != 0 {
         let (cut, plain) = comb(alloc, n, numbers.below(n))?;
+        let dual = numbers.dual();
+        cuts.push((cut, dual))?;
+        plain_cuts.push(plain::CutDual { cut: plain, dual })?;
+    }
+    if numbers.below(3) != 0 {
+        let first = numbers.below(n);
+        let (cut, plain) = odd(alloc, numbers, n, first)?;
         let dual = numbers.dual();
         cuts.push((cut, dual))?;
         plain_cuts.push(plain::CutDual { cut: plain, dual })?;

@@ -70,7 +70,7 @@ pub fn changes<'a, T: Trail<'a>>(instance: &Instance, trail: T, closing: &Closin
     requires closing { IsClosing instance.now.n (T.conditions trail) closing.now }
     ensures value { result ≡ terms instance.now.n (defs.reduced_cost instance.now (T.conditions trail) closing.now) (T.conditions trail)
         -ℤ terms instance.now.n (defs.reduced_cost instance.now (T.conditions trail) closing.now) [] }
-    ensures size { IsWithin (2 ^ 101) result }
+    ensures size { IsWithin (2 ^ 110) result }
 {
     let _ = (instance.n(), trail.n());
     let mut total: i128 = 0;

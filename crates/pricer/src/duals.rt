@@ -42,7 +42,7 @@ fn cut_worth(n: u32, cut: &Cut, dual: u64) -> u128
     requires cut { IsCut n cut.now }
     requires dual { dual ≤ 2 ^ 62 }
     ensures value { result ≡ dual * right_side cut.now }
-    ensures size { result ≤ 2 ^ 62 * 6002 }
+    ensures size { result ≤ 2 ^ 62 * 12286 }
 {
     cuts_are_small();
     u128::from(dual) * u128::from(cut.rhs())
@@ -55,7 +55,7 @@ pub fn cuts_worth(n: u32, cuts: &[(Cut, u64)]) -> u128
     requires sizes { AllByRecursion (λ q. IsDualSize q.1) cuts.now }
     requires some { length cuts.now ≤ 4096 }
     ensures value { pos result ≡ defs.worth (defs.cut_rows cuts.now) }
-    ensures size { result ≤ 2 ^ 62 * 6002 * 4096 }
+    ensures size { result ≤ 2 ^ 62 * 12286 * 4096 }
 {
     let mut total: u128 = 0;
     let mut rest = cuts;
@@ -71,7 +71,7 @@ fn cut_price(n: u32, cut: &Cut, dual: u64, u: u32, v: u32) -> u128
     requires cut { IsCut n cut.now }
     requires dual { dual ≤ 2 ^ 62 }
     ensures value { result ≡ dual * coefficient (sets_of cut.now) u v }
-    ensures size { result ≤ 2 ^ 62 * 3 }
+    ensures size { result ≤ 2 ^ 62 * 3999 }
 {
     u128::from(dual) * u128::from(cut.coef(u, v))
 }
@@ -82,7 +82,7 @@ pub fn cuts_price(n: u32, cuts: &[(Cut, u64)], u: u32, v: u32) -> u128
     requires sizes { AllByRecursion (λ q. IsDualSize q.1) cuts.now }
     requires some { length cuts.now ≤ 4096 }
     ensures value { pos result ≡ defs.price (defs.cut_rows cuts.now) u v }
-    ensures size { result ≤ 2 ^ 62 * 3 * 4096 }
+    ensures size { result ≤ 2 ^ 62 * 3999 * 4096 }
 {
     let mut total: u128 = 0;
     let mut rest = cuts;

@@ -93,7 +93,7 @@ pub fn small_of(x: i128) -> Option<i64>
 /// A cost less what the duals of sets take off it.
 pub fn less_sets(cost: i128, cuts: i128, cliques: i128) -> i128
     requires cost { IsWithin (2 ^ 102) cost }
-    requires cuts { IsWithin (2 ^ 80) cuts }
+    requires cuts { IsWithin (2 ^ 88) cuts }
     requires cliques { IsWithin (2 ^ 80) cliques }
     ensures value { result ≡ cost -ℤ cuts -ℤ cliques }
     ensures size { IsWithin (2 ^ 103) result }

@@ -1,10 +1,10 @@
 //! Duals of sets, laid on the cities of the sets.
 
-ghost use Rattle.std.specs.Prelude.{◌≡◌, ℕ, ◌*◌, ◌^◌, ◌<◌, ◌≤◌, length, pos, neg_ℤ, ◌+ℤ◌, ◌∷◌, []};
+ghost use Rattle.std.specs.Prelude.{◌≡◌, ℕ, ◌*◌, ◌^◌, ◌<◌, ◌≤◌, ◌+◌, length, map, pos, neg_ℤ, ◌+ℤ◌, ◌∷◌, []};
 ghost use Rattle.std.specs.List.{AllByRecursion};
 ghost use Rattle.std.specs.Option.{option_map};
 ghost use Rattle.tspdef.specs.Sets.{IsSet};
-ghost use Rattle.tspdef.specs.Cuts.{IsCut};
+ghost use Rattle.tspdef.specs.Cuts.{IsCut, pair_set};
 ghost use Rattle.tspdef.specs.Closings.{IsDualSize};
 ghost use Rattle.tspdef.specs.Bounds.{cut_rows, condition_row, condition_rows};
 ghost use Rattle.cutform.specs.Cut.{cities_of_each};
@@ -67,16 +67,55 @@ fn raise_each(numbers: &mut [i128], holder: Option<u32>, sets: &[CitySet], dual:
     }
 }
 
-/// Adds the dual of a cut at each city of each of its sets that count.
+/// Whether a pair counts: always, or where a city is one of its two.
+#[inline]
+fn is_pair_counted(holder: Option<u32>, pair: (u32, u32)) -> bool
+    ensures { result ≡ is_counted holder (pair_set pair) }
+{
+    match holder {
+        None => true,
+        Some(city) => pair.0 == city || pair.1 == city,
+    }
+}
+
+/// Adds a dual at the two cities of a pair that counts.
+fn raise_pair(numbers: &mut [i128], holder: Option<u32>, pair: (u32, u32), dual: u64)
+    requires set { IsSet (length numbers.old) (pair_set pair) }
+    requires numbers { (c : ℕ) → IsWithin (2 ^ 99) (at numbers.old c) }
+    requires dual { dual ≤ 2 ^ 62 }
+    ensures { (c : ℕ) → at numbers.new c ≡ at numbers.old c +ℤ laid_one (pos dual) holder (pair_set pair) c }
+{
+    if is_pair_counted(holder, pair) {
+        add_at(numbers, &[pair.0, pair.1], i128::from(dual));
+    }
+}
+
+/// Adds a dual at the two cities of each of the pairs that count.
+fn raise_pairs(numbers: &mut [i128], holder: Option<u32>, pairs: &[(u32, u32)], dual: u64)
+    requires sets { AllByRecursion (IsSet (length numbers.old)) (map pair_set pairs.now) }
+    requires few { length pairs.now ≤ 4096 }
+    requires numbers { (c : ℕ) → IsWithin (2 ^ 98) (at numbers.old c) }
+    requires dual { dual ≤ 2 ^ 62 }
+    ensures { (c : ℕ) → at numbers.new c ≡ at numbers.old c +ℤ laid (pos dual) holder (map pair_set pairs.now) c }
+{
+    let mut rest = pairs;
+    while let Some((pair, more)) = rest.split_first() {
+        raise_pair(numbers, holder, *pair, dual);
+        rest = more;
+    }
+}
+
+/// Adds the dual of a cut at each city of each of its sets that count, pairs among them.
 fn spread_cut(n: u32, numbers: &mut [i128], holder: Option<u32>, cut: &Cut, dual: u64)
     requires few { n ≤ 2000 }
     requires long { n ≤ length numbers.old }
     requires cut { IsCut n cut.now }
     requires dual { dual ≤ 2 ^ 62 }
-    requires numbers { (c : ℕ) → IsWithin (2 ^ 98) (at numbers.old c) }
+    requires numbers { (c : ℕ) → IsWithin (2 ^ 97 + 2 ^ 90) (at numbers.old c) }
     ensures { (c : ℕ) → at numbers.new c ≡ at numbers.old c +ℤ held holder (cut_rows ((cut.now, dual) ∷ [])) c }
 {
     raise_each(numbers, holder, cut.sets(), dual);
+    raise_pairs(numbers, holder, cut.pairs(), dual);
 }
 
 /// Adds the dual of each cut at each city of each of its sets that count.

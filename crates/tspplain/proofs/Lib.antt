@@ -3,3 +3,4 @@ pub mod SearchLemmas
 pub mod BitLemmas
 pub mod CrossingLemmas
 pub mod PathLemmas
+pub mod CutLemmas

@@ -34,6 +34,7 @@ lists sets = map (λ s. s.items) sets
 abbrev pub cut_of : ℕ → Cut → c.Cut
 cut_of n (cuts.Subtour s) = c.subtour n s.items
 cut_of n (cuts.Comb h ts) = c.comb n h.items (lists ts.items)
+cut_of n (cuts.Odd h ps) = c.odd n h.items ps.items
 
 abbrev pub condition_of : Condition → p.Condition
 condition_of (conditions.Fixed u v) = p.fixed u v

@@ -31,13 +31,14 @@ fn times(dual: u64, count: u128, most: u128) -> u128
 fn cuts_price(n: u32, cuts: &[CutDual], u: u32, v: u32) -> u128
     requires cuts { AllByRecursion (λ q. cut_defs.IsCut n q.0) (cut_duals_of n cuts.now) }
     requires sizes { AllByRecursion (λ q. closing_defs.IsDualSize q.1) (cut_duals_of n cuts.now) }
+    requires few { length cuts.now ≤ 4096 }
     ensures value { pos result ≡ defs.price (defs.cut_rows (cut_duals_of n cuts.now)) u v }
-    ensures bound { result ≤ 2 ^ 62 * 3 * length cuts.now }
+    ensures bound { result ≤ 2 ^ 62 * 4096 * length cuts.now }
 {
     match cuts.split_first() {
         None => 0,
         Some((q, rest)) => {
-            times(q.dual, cut_coefficient(n, &q.cut, u, v), 3) + cuts_price(n, rest, u, v)
+            times(q.dual, cut_coefficient(n, &q.cut, u, v), 4096) + cuts_price(n, rest, u, v)
         }
     }
 }
@@ -210,11 +211,11 @@ fn less_cities(d: u32, a: i64, b: i64) -> i128
 /// A cost less what the duals of sets take off it.
 fn less_sets(cost: i128, cuts: i128, cliques: i128) -> i128
     requires cost { (neg_ℤ (pos (2 ^ 65)) ≤ℤ cost) × (cost ≤ℤ pos (2 ^ 65)) }
-    requires cuts { (neg_ℤ (pos (2 ^ 80)) ≤ℤ cuts) × (cuts ≤ℤ pos (2 ^ 80)) }
+    requires cuts { (neg_ℤ (pos (2 ^ 87)) ≤ℤ cuts) × (cuts ≤ℤ pos (2 ^ 87)) }
     requires cliques { (neg_ℤ (pos (2 ^ 80)) ≤ℤ cliques) × (cliques ≤ℤ pos (2 ^ 80)) }
     ensures value { result ≡ cost -ℤ cuts -ℤ cliques }
-    ensures low { neg_ℤ (pos (2 ^ 82)) ≤ℤ result }
-    ensures high { result ≤ℤ pos (2 ^ 82) }
+    ensures low { neg_ℤ (pos (2 ^ 88)) ≤ℤ result }
+    ensures high { result ≤ℤ pos (2 ^ 88) }
 {
     cost - cuts - cliques
 }
@@ -241,8 +242,8 @@ pub fn reduced_cost(
 ) -> i128
     requires { closing_defs.IsClosing instance.now.n (path_of path.now) (closing_of instance.now.n closing.now) }
     ensures value { result ≡ defs.reduced_cost (instance_of instance.now) (path_of path.now) (closing_of instance.now.n closing.now) u v }
-    ensures low { neg_ℤ (pos (2 ^ 82)) ≤ℤ result }
-    ensures high { result ≤ℤ pos (2 ^ 82) }
+    ensures low { neg_ℤ (pos (2 ^ 88)) ≤ℤ result }
+    ensures high { result ≤ℤ pos (2 ^ 88) }
 {
     let cost = less_cities(
         dist(instance, u, v),
@@ -258,8 +259,8 @@ pub fn reduced_cost(
 fn pair_term(instance: &Instance, path: &[Condition], closing: &Closing, u: u32, v: u32) -> i128
     requires { closing_defs.IsClosing instance.now.n (path_of path.now) (closing_of instance.now.n closing.now) }
     ensures value { result ≡ defs.pair_term (path_of path.now) (defs.reduced_cost (instance_of instance.now) (path_of path.now) (closing_of instance.now.n closing.now)) u v }
-    ensures low { neg_ℤ (pos (2 ^ 82)) ≤ℤ result }
-    ensures high { result ≤ℤ pos (2 ^ 82) }
+    ensures low { neg_ℤ (pos (2 ^ 88)) ≤ℤ result }
+    ensures high { result ≤ℤ pos (2 ^ 88) }
 {
     let cost = reduced_cost(instance, path, closing, u, v);
     if is_present(path, u, v) {
@@ -276,8 +277,8 @@ fn column(instance: &Instance, path: &[Condition], closing: &Closing, v: u32) ->
     requires closing { closing_defs.IsClosing instance.now.n (path_of path.now) (closing_of instance.now.n closing.now) }
     requires few { v ≤ 2000 }
     ensures value { result ≡ sums.sum_below (λ u. defs.pair_term (path_of path.now) (defs.reduced_cost (instance_of instance.now) (path_of path.now) (closing_of instance.now.n closing.now)) u v) v }
-    ensures low { neg_ℤ (pos (2 ^ 82 * 2000)) ≤ℤ result }
-    ensures high { result ≤ℤ pos (2 ^ 82 * 2000) }
+    ensures low { neg_ℤ (pos (2 ^ 88 * 2000)) ≤ℤ result }
+    ensures high { result ≤ℤ pos (2 ^ 88 * 2000) }
 {
     let mut total: i128 = 0;
     for u in 0..v {
@@ -291,8 +292,8 @@ fn pairs(instance: &Instance, path: &[Condition], closing: &Closing) -> i128
     requires closing { closing_defs.IsClosing instance.now.n (path_of path.now) (closing_of instance.now.n closing.now) }
     requires few { instance.now.n ≤ 2000 }
     ensures value { result ≡ sums.sum_pairs (defs.pair_term (path_of path.now) (defs.reduced_cost (instance_of instance.now) (path_of path.now) (closing_of instance.now.n closing.now))) instance.now.n }
-    ensures low { neg_ℤ (pos (2 ^ 82 * 2000 * 2000)) ≤ℤ result }
-    ensures high { result ≤ℤ pos (2 ^ 82 * 2000 * 2000) }
+    ensures low { neg_ℤ (pos (2 ^ 88 * 2000 * 2000)) ≤ℤ result }
+    ensures high { result ≤ℤ pos (2 ^ 88 * 2000 * 2000) }
 {
     let mut total: i128 = 0;
     for v in 0..instance.n {

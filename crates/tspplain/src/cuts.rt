@@ -3,8 +3,10 @@
 ghost use Rattle.std.specs.Prelude.{◌≡◌, ◌+◌, ◌*◌, ◌≤◌, ◌↔◌, IsTrue, length};
 ghost use Rattle.std.specs.List.{AllByRecursion};
 ghost use Rattle.tspdef.specs.Cuts as defs;
+ghost use Rattle.tspdef.specs.Laws.{most_crossed};
 ghost use Rattle.tspplain.specs.Values.{lists, cut_of};
 
+use crate::odd_cuts::{is_odd, pairs_coefficient};
 use crate::sets::{are_disjoint, is_proper, is_set, leaves, meet};
 use crate::tours::crosses;
 use crate::values::Cut;
@@ -30,13 +32,17 @@ fn sets_crossed(n: u32, cut: &Cut, u: u32, v: u32) -> u128
         Cut::Comb(handle, teeth) => {
             u128::from(crosses(handle.as_slice(), u, v)) + coefficient(teeth.as_slice(), u, v)
         }
+        Cut::Odd(handle, pairs) => {
+            u128::from(crosses(handle.as_slice(), u, v)) + pairs_coefficient(pairs.as_slice(), u, v)
+        }
     }
 }
 
-/// How many of a cut's sets have exactly one of two cities, three at most.
+/// How many of a cut's sets have exactly one of two cities: three at most, and of an odd cut of n cities 2n - 1.
 pub fn cut_coefficient(n: u32, cut: &Cut, u: u32, v: u32) -> u128
     ensures value { result ≡ defs.coefficient (defs.sets_of (cut_of n cut.now)) u v }
-    ensures small { defs.IsCut n (cut_of n cut.now) → result ≤ 3 }
+    ensures small { defs.IsCut n (cut_of n cut.now) → result ≤ most_crossed n (cut_of n cut.now) }
+    ensures few { defs.IsCut n (cut_of n cut.now) → result ≤ 4096 }
 {
     cuts_are_small();
     sets_crossed(n, cut, u, v)
@@ -45,12 +51,13 @@ pub fn cut_coefficient(n: u32, cut: &Cut, u: u32, v: u32) -> u128
 /// What a tour's crossings of a cut's sets add up to at least.
 pub fn right_side(n: u32, cut: &Cut) -> u128
     ensures value { result ≡ defs.right_side (cut_of n cut.now) }
-    ensures small { defs.IsCut n (cut_of n cut.now) → result ≤ 3 * n + 2 }
+    ensures small { defs.IsCut n (cut_of n cut.now) → result ≤ 3 * n + 12286 }
 {
     cuts_are_small();
     match cut {
         Cut::Subtour(_) => 2,
         Cut::Comb(_, teeth) => 3 * teeth.len() as u128 + 1,
+        Cut::Odd(_, pairs) => 3 * pairs.len() as u128 + 1,
     }
 }
 
@@ -89,5 +96,6 @@ pub fn is_cut(n: u32, cut: &Cut) -> bool
     match cut {
         Cut::Subtour(set) => is_proper(n, set.as_slice()),
         Cut::Comb(handle, teeth) => is_comb(n, handle.as_slice(), teeth.as_slice()),
+        Cut::Odd(handle, pairs) => is_odd(n, handle.as_slice(), pairs.as_slice()),
     }
 }

@@ -12,6 +12,7 @@ pub mod closings;
 pub mod cuts;
 pub mod distances;
 pub mod drawn;
+pub mod odd_cuts;
 pub mod paths;
 pub mod search;
 pub mod separation;

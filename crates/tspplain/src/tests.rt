@@ -81,10 +81,19 @@ fn comb(alloc: Global, teeth: u32) -> Result<Cut, AllocError> {
     Ok(Cut::Comb(set(alloc, &[0, 1, 2])?, all))
 }
 
-fn prism_closing(alloc: Global, teeth: u32) -> Result<Closing, AllocError> {
+/// The odd cut of the prism: the first triangle, and some of the three short edges as pairs.
+fn odd_cut(alloc: Global, pairs: u32) -> Result<Cut, AllocError> {
+    let mut all = Vec::new(alloc);
+    for k in 0..pairs.min(3) {
+        all.push((k, k + 3))?;
+    }
+    Ok(Cut::Odd(set(alloc, &[0, 1, 2])?, all))
+}
+
+fn prism_closing(alloc: Global, cut: Cut) -> Result<Closing, AllocError> {
     let mut closing = even(alloc, 6, -524_288)?;
     closing.cuts.push(CutDual {
-        cut: comb(alloc, teeth)?,
+        cut,
         dual: 1_048_576,
     })?;
     Ok(closing)
@@ -184,7 +193,12 @@ fn bounds_are_those_of_the_worked_proofs(rt: HostRuntime) -> Result<(), Fail> {
         39 * SCALE
     );
     assert_eq!(rt;
-        bound_of(&rt, &prism(alloc)?, &[], &prism_closing(alloc, 3)?),
+        bound_of(
+            &rt,
+            &prism(alloc)?,
+            &[],
+            &prism_closing(alloc, comb(alloc, 3)?)?
+        ),
         4 * SCALE
     );
     let far = groups(alloc)?;
@@ -208,20 +222,50 @@ fn proofs_are_accepted_and_refused(rt: HostRuntime) -> Result<(), Fail> {
     assert!(rt; corners.n <= 2000);
     let around = [0, 1, 2, 3];
     let whole = Tree::Closed(even(alloc, 4, 5_242_880)?);
-    assert!(rt; is_accepted(alloc, &corners, &around, 40, &whole)?);
-    assert!(rt; !is_accepted(alloc, &corners, &around, 41, &whole)?);
-    assert!(rt; !is_accepted(alloc, &corners, &[0, 3, 2, 1], 40, &whole)?);
-    assert!(rt; !is_accepted(alloc, &corners, &around, 40, &Tree::Open)?);
+    assert!(rt; is_accepted(alloc, &corners, &around, 40, 40, &whole)?);
+    assert!(rt; !is_accepted(alloc, &corners, &around, 41, 41, &whole)?);
+    assert!(rt; !is_accepted(alloc, &corners, &[0, 3, 2, 1], 40, 40, &whole)?);
+    assert!(rt; !is_accepted(alloc, &corners, &around, 40, 40, &Tree::Open)?);
     let level = Tree::Closed(even(alloc, 4, 5_111_808)?);
-    assert!(rt; !is_accepted(alloc, &corners, &around, 40, &level)?);
+    assert!(rt; !is_accepted(alloc, &corners, &around, 40, 40, &level)?);
 
     let triangles = prism(alloc)?;
     assert!(rt; triangles.n <= 2000);
     let ring = [0, 1, 2, 5, 4, 3];
-    let three = Tree::Closed(prism_closing(alloc, 3)?);
-    assert!(rt; is_accepted(alloc, &triangles, &ring, 4, &three)?);
-    let two = Tree::Closed(prism_closing(alloc, 2)?);
-    assert!(rt; !is_accepted(alloc, &triangles, &ring, 4, &two)?);
+    let three = Tree::Closed(prism_closing(alloc, comb(alloc, 3)?)?);
+    assert!(rt; is_accepted(alloc, &triangles, &ring, 4, 4, &three)?);
+    let two = Tree::Closed(prism_closing(alloc, comb(alloc, 2)?)?);
+    assert!(rt; !is_accepted(alloc, &triangles, &ring, 4, 4, &two)?);
+    Ok(())
+}
+
+#[test]
+fn proofs_with_an_odd_cut_are_accepted(rt: HostRuntime) -> Result<(), Fail> {
+    let alloc = rt.alloc();
+    let triangles = prism(alloc)?;
+    assert!(rt; triangles.n <= 2000);
+    let ring = [0, 1, 2, 5, 4, 3];
+    let three = Tree::Closed(prism_closing(alloc, odd_cut(alloc, 3)?)?);
+    assert!(rt; is_accepted(alloc, &triangles, &ring, 4, 4, &three)?);
+    let two = Tree::Closed(prism_closing(alloc, odd_cut(alloc, 2)?)?);
+    assert!(rt; !is_accepted(alloc, &triangles, &ring, 4, 4, &two)?);
+    let twice = Cut::Odd(set(alloc, &[0, 1, 2])?, vec![in alloc; (0, 3); 3]?);
+    let twice = Tree::Closed(prism_closing(alloc, twice)?);
+    assert!(rt; !is_accepted(alloc, &triangles, &ring, 4, 4, &twice)?);
+    Ok(())
+}
+
+#[test]
+fn bounds_below_the_length_are_accepted(rt: HostRuntime) -> Result<(), Fail> {
+    let alloc = rt.alloc();
+    let corners = square(alloc)?;
+    assert!(rt; corners.n <= 2000);
+    let around = [0, 1, 2, 3];
+    let nothing = Tree::Closed(even(alloc, 4, 0)?);
+    assert!(rt; is_accepted(alloc, &corners, &around, 40, 0, &nothing)?);
+    assert!(rt; !is_accepted(alloc, &corners, &around, 40, 1, &nothing)?);
+    let whole = Tree::Closed(even(alloc, 4, 5_242_880)?);
+    assert!(rt; !is_accepted(alloc, &corners, &around, 40, 41, &whole)?);
     Ok(())
 }
 
@@ -233,11 +277,11 @@ fn a_clique_split_is_accepted_with_both_children(rt: HostRuntime) -> Result<(), 
     let first = Box::new(alloc, Tree::Closed(twice(alloc)?))?;
     let second = Box::new(alloc, Tree::Closed(more(alloc)?))?;
     let split = Tree::Clique(set(alloc, &[0, 1, 2])?, first, second);
-    assert!(rt; is_accepted(alloc, &far, &[0, 1, 2, 3, 4, 5], 24, &split)?);
+    assert!(rt; is_accepted(alloc, &far, &[0, 1, 2, 3, 4, 5], 24, 24, &split)?);
 
     let first = Box::new(alloc, Tree::Open)?;
     let second = Box::new(alloc, Tree::Closed(more(alloc)?))?;
     let half = Tree::Edge(0, 1, first, second);
-    assert!(rt; !is_accepted(alloc, &far, &[0, 1, 2, 3, 4, 5], 24, &half)?);
+    assert!(rt; !is_accepted(alloc, &far, &[0, 1, 2, 3, 4, 5], 24, 24, &half)?);
     Ok(())
 }

@@ -108,38 +108,41 @@ fn fix_all(path: &mut Vec<Condition>, fixed: &[(u32, u32)]) -> Result<(), AllocE
     }
 }
 
-/// Whether the tree is sound for tours of the length, from the root on.
+/// Whether the tree is sound for the bound, from the root on.
 pub fn is_sound_for(
     alloc: Global,
     instance: &Instance,
-    length: u64,
+    bound: u64,
     tree: &Tree,
 ) -> Result<bool, AllocError>
     requires { instance.now.n ≤ 2000 }
-    ensures { IfOk result (λ yes. IsTrue yes ↔ defs.IsSoundFor (instance_of instance.now) length (tree_of instance.now.n tree.now)) }
+    ensures { IfOk result (λ yes. IsTrue yes ↔ defs.IsSoundFor (instance_of instance.now) bound (tree_of instance.now.n tree.now)) }
 {
     let mut path = Vec::new(alloc);
     fix_all(&mut path, instance.fixed.as_slice())?;
-    is_sound(alloc, instance, needed(length), &mut path, tree)
+    is_sound(alloc, instance, needed(bound), &mut path, tree)
 }
 
-/// Whether the tour is canonical, the length is its length, and the tree proves that no tour is shorter.
+/// Whether the tour is canonical, the length is its length and no less than the bound, and the tree proves that no tour is shorter
+/// than the bound.
 pub fn is_accepted(
     alloc: Global,
     instance: &Instance,
     tour: &[u32],
     length: u64,
+    bound: u64,
     tree: &Tree,
 ) -> Result<bool, AllocError>
     requires { instance.now.n ≤ 2000 }
-    ensures { IfOk result (λ yes. IsTrue yes ↔ defs.IsAccepted (instance_of instance.now) tour.now length (tree_of instance.now.n tree.now)) }
+    ensures { IfOk result (λ yes. IsTrue yes ↔ defs.IsAccepted (instance_of instance.now) tour.now length bound (tree_of instance.now.n tree.now)) }
 {
-    let sound = is_sound_for(alloc, instance, length, tree)?;
+    let sound = is_sound_for(alloc, instance, bound, tree)?;
     Ok(
         sound
             && is_tour_of(instance, tour)
             && is_canonical(tour)
             && tour_length(instance, tour) == u128::from(length)
+            && bound <= length
             && has_none_open(tree),
     )
 }

@@ -19,11 +19,12 @@ pub struct Instance {
     pub fixed: Vec<(u32, u32)>,
 }
 
-/// A subtour cut, or a comb with its handle and its teeth.
+/// A subtour cut, a comb with its handle and its teeth, or an odd cut with its handle and its pairs.
 #[derive(Drop)]
 pub enum Cut {
     Subtour(Vec<u32>),
     Comb(Vec<u32>, Vec<Vec<u32>>),
+    Odd(Vec<u32>, Vec<(u32, u32)>),
 }
 
 /// A fixed pair, which has no depth; a pair that a tour does not use, or uses; a set that it crosses exactly twice, or four times at

@@ -8,7 +8,7 @@ use Rattle.tspdef.specs.Closings.{Closing}
 use Rattle.tspdef.specs.Bounds.{scale, worth, cut_rows, condition_rows, city_dual, reduced_cost, bound}
 use Rattle.pricer.specs.Sizes.{IsWithin}
 use Rattle.pricer.specs.Prices.{terms}
-use Rattle.pricer.proofs.SizeLemmas.{bound_size, within_more, read128}
+use Rattle.pricer.proofs.SizeLemmas.{bound_size, read128}
 use Rattle.pricer.proofs.bounds.bound_on.Given.{Over}
 use Rattle.pricer.proofs.bounds.bound_on.Goals as goal
 use Rattle.pricer.proofs.bounds.bound_on.Goals.{After-balance}
@@ -23,22 +23,22 @@ sum i path k n a b r l same fixed changed lost e = let f = rw same at fixed in o
 is_bound : (g : Over) (c : After-balance g) → c.balance.result ≡ bound c.args.instance.now (g.T.Trail.conditions c.args.trail) c.args.closing.now
 is_bound g c =
     let a = read128 (2 ^ 89) c.worth-worth.result (omega arith) c.worth-worth.ensures.size in
-    let b = read128 (2 ^ 101) c.changes-changes.result (omega arith) c.changes-changes.ensures.size in
+    let b = read128 (2 ^ 110) c.changes-changes.result (omega arith) c.changes-changes.ensures.size in
     let e = c.balance.ensures in
     sum c.args.instance.now (g.T.Trail.conditions c.args.trail) c.args.closing.now c.n.result c.worth-worth.result c.changes-changes.result c.balance.result c.losses.result
     c.n.ensures.same c.worth-worth.ensures.value c.changes-changes.ensures.value c.losses.ensures.value (omega (arith, ints))
 
-small : (g : Over) (c : After-balance g) → IsWithin (2 ^ 100) c.balance.result
-small g c = subst (IsWithin (2 ^ 100)) (sym (is_bound g c)) (bound_size c.args.instance.now (g.T.Trail.conditions c.args.trail) c.args.closing.now c.n.ensures.instance c.requires.closing)
+small : (g : Over) (c : After-balance g) → IsWithin (2 ^ 110) c.balance.result
+small g c = subst (IsWithin (2 ^ 110)) (sym (is_bound g c)) (bound_size c.args.instance.now (g.T.Trail.conditions c.args.trail) c.args.closing.now c.n.ensures.instance c.requires.closing)
 
 pub returns-clause-value : goal.returns-clause-value
-returns-clause-value g c = read128 (2 ^ 100) c.balance.result (omega arith) (small g c) ∙ is_bound g c
+returns-clause-value g c = read128 (2 ^ 110) c.balance.result (omega arith) (small g c) ∙ is_bound g c
 
 pub returns-clause-size : goal.returns-clause-size
-returns-clause-size g c = subst (IsWithin (2 ^ 110)) (sym (read128 (2 ^ 100) c.balance.result (omega arith) (small g c))) (within_more (2 ^ 100) (2 ^ 110) c.balance.result (omega arith) (small g c))
+returns-clause-size g c = subst (IsWithin (2 ^ 110)) (sym (read128 (2 ^ 110) c.balance.result (omega arith) (small g c))) (small g c)
 
 pub returns-clause-below : goal.returns-clause-below
 returns-clause-below g c = λ tour is obeys.
     let most = pos (scale * length_in c.args.instance.now tour) in
-    subst (λ (x : ℤ). x ≤ℤ most) (sym (read128 (2 ^ 100) c.balance.result (omega arith) (small g c) ∙ is_bound g c))
+    subst (λ (x : ℤ). x ≤ℤ most) (sym (read128 (2 ^ 110) c.balance.result (omega arith) (small g c) ∙ is_bound g c))
     (c.bound_is_below.ensures.bound c.args.instance.now (g.T.Trail.conditions c.args.trail) c.args.closing.now tour c.n.ensures.instance.many is c.requires.closing obeys)

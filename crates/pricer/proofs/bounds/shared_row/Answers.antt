@@ -1,5 +1,5 @@
-use Rattle.std.proofs.Common.{◌≤◌, ◌^◌, arith, refl, ap, ◌∙◌, pos}
-use Rattle.std.specs.Prelude.{ℤ}
+use Rattle.std.proofs.Common.{◌≡◌, ℕ, ◌≤◌, ◌^◌, List, length, arith, refl, ap, ◌∙◌, pos}
+use Rattle.std.specs.Prelude.{ℤ, replicate}
 use Rattle.std.specs.Int.{int_min}
 use Rattle.std.proofs.Math.Nat.{mul-le-mul_left}
 use Rattle.tspdef.specs.Instances.{dist}
@@ -7,14 +7,23 @@ use Rattle.tspdef.specs.Sums.{sum_below}
 use Rattle.pricer.specs.Sizes.{IsWithin}
 use Rattle.pricer.specs.Prices.{at, cost_of}
 use Rattle.pricer.proofs.SizeLemmas.{read128}
+use Rattle.pricer.proofs.ListLemmas.{no_number}
 use Rattle.pricer.proofs.RowLemmas.{price_size, shared_size, row_sum}
 use Rattle.pricer.proofs.bounds.shared_row.Goals as goal
 
+-- a cleared number
+cleared : (xs : List ℤ) (n k : ℕ) → xs ≡ replicate n (pos 0) → at xs k ≡ pos 0
+cleared xs n k e = ap (λ ys. at ys k) e ∙ no_number n k
+
 pub lay_shared-requires : goal.lay_shared-requires
-lay_shared-requires g c κs = ((refl, tt), (c.requires.cities, (c.requires.closing, (omega arith, c.zeros-shared.ensures.empty))))
+lay_shared-requires g c κs =
+    let long = c.fill.ensures.len in
+    let room = c.requires.room in
+    let zeros = c.fill.ensures.after (λ y e. e) in
+    ((refl, tt), (c.requires.cities, (c.requires.closing, (omega arith, λ k. cleared c.fill.new.self (length c.args.shared.now) k zeros))))
 
 pub row_loss-requires-clause-own_len : goal.row_loss-requires-clause-own_len
-row_loss-requires-clause-own_len g c = omega arith
+row_loss-requires-clause-own_len g c = let long = c.fill.ensures.len in let kept = c.lay_shared.auto.shared in let room = c.requires.room in omega arith
 
 pub row_loss-requires-clause-base : goal.row_loss-requires-clause-base
 row_loss-requires-clause-base g c =

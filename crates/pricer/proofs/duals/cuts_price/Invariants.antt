@@ -8,7 +8,7 @@ use Rattle.pricer.proofs.duals.cuts_price.Given as goal
 abbrev pub invariant-loop-q : goal.invariant-loop-q
 invariant-loop-q l = record {
   so_far : pos l.total +ℤ defs.price (defs.cut_rows l.rest) l.u l.v ≡ defs.price (defs.cut_rows l.cuts) l.u l.v;
-  size : l.total + 2 ^ 62 * 3 * length l.rest ≤ 2 ^ 62 * 3 * length l.cuts;
+  size : l.total + 2 ^ 62 * 3999 * length l.rest ≤ 2 ^ 62 * 3999 * length l.cuts;
   cuts : AllByRecursion (λ q. IsCut l.n q.0) l.rest;
   sizes : AllByRecursion (λ q. IsDualSize q.1) l.rest;
 }
