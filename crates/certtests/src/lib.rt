@@ -1,6 +1,6 @@
 //! The tests that the lines of a proof text are judged by, as calls: each answers what the test's definition says.
 //!
-//! - [`city_set`] and [`is_proper`] are of sets, [`subtour`] and [`comb`] of cuts.
+//! - [`city_set`] and [`is_proper`] are of sets, [`subtour`], [`comb`] and [`odd`] of cuts.
 //! - [`canonical_tour`] and [`has_length`] are of the tour.
 //! - [`names_clique`] and [`closes`] are of closed leaves.
 #![tactic(auto)]
@@ -12,7 +12,7 @@ mod sets;
 mod steps;
 mod tours;
 
-pub use cuts::{comb, subtour};
+pub use cuts::{comb, odd, subtour};
 pub use leaves::{closes, names_clique};
 pub use sets::{city_set, is_proper};
 pub use tours::{canonical_tour, has_length};

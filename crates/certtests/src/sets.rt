@@ -16,7 +16,8 @@ pub fn city_set(alloc: Global, n: u32, set: Vec<u32>) -> Result<CitySet, AllocEr
     ensures value { IfOk result (λ s. s ≡ record { n = n; cities = lowered set.items }) }
     ensures again { IfOk result (λ s. to_one s.cities ≡ set.items) }
 {
-    let cities = from_zero(alloc, &set)?;
+    let mut cities = set;
+    lower(&mut cities);
     match CitySet::new(alloc, n, cities) {
         Ok(set) => Ok(set),
         Err(CitySetError::NotRising) => unreachable!(),
@@ -24,14 +25,13 @@ pub fn city_set(alloc: Global, n: u32, set: Vec<u32>) -> Result<CitySet, AllocEr
     }
 }
 
-/// Cities from 0, of cities from 1.
-fn from_zero(alloc: Global, cities: &[u32]) -> Result<Vec<u32>, AllocError>
-    ensures { IfOk result (λ v. v.items ≡ lowered cities.now) }
+/// Counts from 0 the cities that were counted from 1.
+fn lower(cities: &mut [u32])
+    ensures { cities.new ≡ lowered cities.old }
 {
-    cities
-        .iter()
-        .map(|city| city.saturating_sub(1))
-        .collect(alloc)
+    for city in cities.iter_mut() {
+        *city = city.saturating_sub(1);
+    }
 }
 
 /// Whether the set is neither empty nor all cities.
