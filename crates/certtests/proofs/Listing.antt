@@ -1,5 +1,5 @@
 -- Cities from 0 and from 1, and cuts that are listed.
-use Rattle.std.proofs.Common.{◌≡◌, ℕ, suc, ◌+◌, ◌-◌, ◌<◌, ◌≤◌, Bool, true, false, ◌&&◌, List, [], ◌∷◌, length, get_or, map, refl, sym, ap, ◌∙◌, subst, arith, ◌↔◌, IsTrue}
+use Rattle.std.proofs.Common.{◌≡◌, ℕ, suc, ◌+◌, ◌-◌, ◌<◌, ◌≤◌, Bool, true, false, ◌&&◌, List, [], ◌∷◌, ◌++◌, length, take, drop, get_or, map, refl, sym, ap, ◌∙◌, subst, arith, ◌↔◌, IsTrue}
 use Rattle.std.specs.Prelude.{nat_lt, nat_le}
 use Rattle.std.specs.List.{AllByRecursion}
 use Rattle.std.proofs.lemmas.Bool.{and_parts, leb-true, false_from_ne_true, false≢true}
@@ -54,7 +54,17 @@ lowered_each [] [] l h = refl
 lowered_each [] (y ∷ ys) l h = absurd (omega arith)
 lowered_each (x ∷ xs) [] l h = absurd (omega arith)
 lowered_each (x ∷ xs) (y ∷ ys) l h =
-    ap (λ z. z ∷ ys) (h 0 (omega arith)) ∙ ap (λ zs. x - 1 ∷ zs) (lowered_each xs ys (omega arith) (λ k b. h (suc k) (omega arith)))
+    ap (λ z. z ∷ ys) (h 0 (omega arith)) ∙ ap (λ zs. (x - 1) ∷ zs) (lowered_each xs ys (omega arith) (λ k b. h (suc k) (omega arith)))
+
+-- a list written over another one as long as it
+written : (xs ys : List ℕ) → length ys ≡ length xs → take (length xs) (ys ++ drop (length ys) xs) ≡ ys
+written [] [] l = refl
+written [] (y ∷ ys) l = absurd (omega arith)
+written (x ∷ xs) [] l = absurd (omega arith)
+written (x ∷ xs) (y ∷ ys) l = ap (λ zs. y ∷ zs) (written xs ys (omega arith))
+
+pub all_written : (m : ℕ) (xs ys : List ℕ) → m ≡ length xs → length ys ≡ length xs → take m (ys ++ drop (length ys) xs) ≡ ys
+all_written m xs ys e l = ap (λ k. take k (ys ++ drop (length ys) xs)) e ∙ written xs ys l
 
 -- what decides that a set is proper is the test
 pub proper_decided : (n : ℕ) (s : List ℕ) (r : Bool) → IsTrue r ↔ IsProper n s → r ≡ is_proper n s

@@ -16,22 +16,22 @@ pub fn city_set(alloc: Global, n: u32, set: Vec<u32>) -> Result<CitySet, AllocEr
     ensures value { IfOk result (λ s. s ≡ record { n = n; cities = lowered set.items }) }
     ensures again { IfOk result (λ s. to_one s.cities ≡ set.items) }
 {
-    let mut cities = set;
-    lower(&mut cities);
-    match CitySet::new(alloc, n, cities) {
+    match CitySet::new(alloc, n, from_zero(set)) {
         Ok(set) => Ok(set),
         Err(CitySetError::NotRising) => unreachable!(),
         Err(CitySetError::NoMemory) => Err(AllocError),
     }
 }
 
-/// Counts from 0 the cities that were counted from 1.
-fn lower(cities: &mut [u32])
-    ensures { cities.new ≡ lowered cities.old }
+/// Cities from 0, of cities from 1, in the same memory.
+fn from_zero(set: Vec<u32>) -> Vec<u32>
+    ensures { result.items ≡ lowered set.items }
 {
+    let mut cities = set;
     for city in cities.iter_mut() {
         *city = city.saturating_sub(1);
     }
+    cities
 }
 
 /// Whether the set is neither empty nor all cities.

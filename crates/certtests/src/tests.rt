@@ -3,7 +3,9 @@
 ghost use Rattle.std.specs.Prelude.{◌≡◌, ◌≤◌, true, IfOk};
 ghost use Rattle.certdef.specs.Items.{is_set};
 
-use crate::{canonical_tour, city_set, closes, comb, has_length, is_proper, names_clique, odd, subtour};
+use crate::{
+    canonical_tour, city_set, closes, comb, has_length, is_proper, names_clique, odd, subtour,
+};
 use branchx::{Cond, Path};
 use cutform::Kind;
 use cyc::CitySet;
