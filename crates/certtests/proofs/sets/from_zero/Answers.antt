@@ -1,4 +1,4 @@
-use Rattle.std.proofs.Common.{◌≡◌, ◌∙◌, ◌<◌, length, ap, arith}
+use Rattle.std.proofs.Common.{◌≡◌, ◌∙◌, length, ap, arith}
 use Rattle.certdef.specs.Accepted.{from_zero as lowered}
 use Rattle.certtests.proofs.Listing.{lowered_each, all_written}
 use Rattle.certtests.proofs.sets.from_zero.Goals as goal
