@@ -1,10 +1,10 @@
 -- numbers at the front of bytes
-use Rattle.std.proofs.Common.{◌≡◌, ℕ, zero, suc, ◌+◌, ◌*◌, ◌-◌, ◌^◌, ◌<◌, ◌≤◌, Bool, true, false, List, [], ◌∷◌, ◌++◌, length, min, drop, get_or, decimal, refl, sym, ap, ◌∙◌, subst, arith, one-add, append_assoc}
+use Rattle.std.proofs.Common.{◌≡◌, ℕ, zero, suc, ◌+◌, ◌*◌, ◌-◌, ◌^◌, ◌<◌, ◌≤◌, Bool, true, false, List, [], ◌∷◌, ◌++◌, length, drop, get_or, decimal, refl, sym, ap, ◌∙◌, subst, arith, one-add, append_assoc}
 use Rattle.std.specs.List.{AllByRecursion}
 use Rattle.std.specs.Char.{is_ascii_digit, digit_value}
 use Rattle.std.specs.Str.Parse.{AllDigits, digits_value, digits_value_after}
-use Rattle.std.proofs.lemmas.Fmt.{decimal_is_IsNumeral, decimal-digits_value, first_decimal, length-decimal-le, decimal_injective, decimal_digit}
-use Rattle.std.proofs.lemmas.Str.Parse.{numerals_by_value, tells_digits, digits_value_short}
+use Rattle.std.proofs.lemmas.Fmt.{decimal_is_IsNumeral, decimal-digits_value, first_decimal, decimal_injective, decimal_digit}
+use Rattle.std.proofs.lemmas.Str.Parse.{numerals_by_value, tells_digits}
 use Rattle.std.proofs.lemmas.Bool.{eqb-true}
 use Rattle.std.proofs.lemmas.Bool.Decides.{nat_tests}
 use Rattle.certline.specs.Spelling.{digits, behind_digits, first_is, EndsWord, BeginsWith, Spells, spaced}
@@ -83,7 +83,7 @@ zero_first (b ∷ bs) e = eqb-true b 48 e
 -- the digits at the front are the word of a number
 pub record IsNumberWord (bytes : List ℕ) : Type 0 where
   pub some : 0 < length (digits bytes)
-  pub few : length (digits bytes) ≤ 19
+  pub small : digits_value 10 (digits bytes) < 10 ^ 19
   pub lead : 1 < length (digits bytes) → first_is 48 bytes ≡ true → ⊥
   pub ends : EndsWord (behind_digits bytes)
 
@@ -107,24 +107,37 @@ is_word bytes n rest h =
     let small = h.small in
     let d = decimal_is_IsNumeral n (omega arith) in
     let r = word_read bytes n rest h in
-    let long : length (decimal n) ≤ 19 = length-decimal-le 19 n (omega arith) (omega arith) (omega arith) in
     let same = ap length r.0 in
     record {
       some = let some = d.0.0 in omega arith;
-      few = omega arith;
+      small = let value : digits_value 10 (digits bytes) ≡ n = ap (digits_value 10) r.0 ∙ d.1 in omega arith;
       lead = λ l e. word_lead n rest h.small (omega arith) (subst (λ b. first_is 48 b ≡ true) h.said e);
       ends = subst EndsWord (sym r.1) h.ends;
     }
 
-value_small : (ds : List ℕ) → AllDigits 10 ds → length ds ≤ 19 → digits_value 10 ds < 10 ^ 19
-value_small ds d h = digits_value_short (numerals_by_value (AllDigits 10) tells_digits) ds 19 d h
+-- more digits make no less a value
+after_grows : (v : ℕ) (ds : List ℕ) → v ≤ digits_value_after 10 v ds
+after_grows v [] = omega arith
+after_grows v (d ∷ ds) = let ih = after_grows (v * 10 + digit_value d) ds in omega arith
 
-pub number_said : (bytes rest : List ℕ) (v : ℕ) → IsNumberWord bytes → v ≡ min (digits_value 10 (digits bytes)) (2 ^ 64 - 1) → rest ≡ behind_digits bytes → BeginsWith bytes v rest
-number_said bytes rest v w e r =
+-- no digit is left behind a great value, where the whole is not too great
+pub none_left : (v : ℕ) (ds : List ℕ) (whole : ℕ) → digits_value_after 10 v ds ≡ whole → 10 ^ 18 ≤ v → whole < 10 ^ 19 → ds ≡ []
+none_left v [] whole e great h = refl
+none_left v (d ∷ ds) whole e great h = absurd (let grows = after_grows (v * 10 + digit_value d) ds in omega arith)
+
+-- no digit stands where a word ends
+pub end_digits : (rest : List ℕ) → EndsWord rest → digits rest ≡ []
+end_digits [] e = refl
+end_digits (b ∷ bs) e = digits_stop b bs (no_digit b e)
+
+pub behind_none : (rest : List ℕ) → digits rest ≡ [] → behind_digits rest ≡ rest
+behind_none rest e = sym (digits_behind rest ∙ ap (λ ds. ds ++ behind_digits rest) e)
+
+pub number_said : (bytes rest : List ℕ) (v : ℕ) → IsNumberWord bytes → v ≡ digits_value 10 (digits bytes) → rest ≡ behind_digits bytes → BeginsWith bytes v rest
+number_said bytes rest v w same r =
     let ds = digits bytes in
     let d = digits_all bytes in
-    let small = value_small ds d w.few in
-    let same : v ≡ digits_value 10 ds = omega arith in
+    let small = w.small in
     let lead : get_or ds 0 0 ≡ 48 → length ds ≡ 1 = λ z. only_one ds (first_is_digit bytes w.some z) w.some w.lead in
     let spelled : decimal (digits_value 10 ds) ≡ ds = decimal-digits_value (numerals_by_value (AllDigits 10) tells_digits) ds d w.some lead (omega arith) in
     record {

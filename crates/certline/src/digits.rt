@@ -1,10 +1,10 @@
 //! Numbers as they are spelled in a line: a blank, then digits without leading zeros, up to the next blank or the end.
 
-ghost use Rattle.std.specs.Prelude.{◌≡◌, ℕ, ◌+◌, ◌*◌, ◌-◌, ◌^◌, ◌<◌, ◌≤◌, List, [], length, min, drop, IsTrue, IfSome, IfNone};
+ghost use Rattle.std.specs.Prelude.{◌≡◌, ℕ, ◌+◌, ◌*◌, ◌^◌, ◌<◌, ◌≤◌, List, [], length, drop, IsTrue, IfSome, IfNone};
 ghost use Rattle.std.specs.Str.Parse.{digits_value, digits_value_after};
 ghost use Rattle.certline.specs.Spelling.{digits as digits_at_front, behind_digits, first_is, EndsWord, BeginsWith, Spells};
 
-/// Digits that were read, their value capped at the type's greatest.
+/// Digits that were read: their value, how many they are, and what stands behind them.
 #[derive(Clone, Copy, Drop)]
 struct Run<'a> {
     value: u64,
@@ -12,8 +12,8 @@ struct Run<'a> {
     rest: &'a [u8],
 }
 
-/// How many digits a number has at most that is read: all of them are below 10^19, and fit the type.
-const MOST_DIGITS: u64 = 19;
+/// No digit is read behind a value that is not below this: numbers are below 10^19, and fit the type.
+const LAST_DIGIT: u64 = 1_000_000_000_000_000_000;
 
 /// Whether bytes begin with this one.
 #[inline]
@@ -60,17 +60,22 @@ fn next_digit(bytes: &[u8]) -> Option<(u64, &[u8])>
     }
 }
 
-/// The digits at the front.
+/// The digits at the front: all of them, if their value is below 10^19.
 fn digits_of(bytes: &[u8]) -> Run<'_>
-    ensures value { result.value ≡ min (digits_value 10 (digits_at_front bytes.now)) (2 ^ 64 - 1) }
-    ensures count { result.count ≡ length (digits_at_front bytes.now) }
-    ensures rest { result.rest.now ≡ behind_digits bytes.now }
+    ensures value { digits_value_after 10 result.value (digits_at_front result.rest.now) ≡ digits_value 10 (digits_at_front bytes.now) }
+    ensures small { result.value < 10 ^ 19 }
+    ensures count { result.count + length (digits_at_front result.rest.now) ≡ length (digits_at_front bytes.now) }
+    ensures behind { behind_digits result.rest.now ≡ behind_digits bytes.now }
+    ensures all { digits_value 10 (digits_at_front bytes.now) < 10 ^ 19 → digits_at_front result.rest.now ≡ [] }
 {
     let mut value = 0u64;
     let mut count = 0u64;
     let mut rest = bytes;
-    while let Some((digit, more)) = next_digit(rest) {
-        value = value.saturating_mul(10).saturating_add(digit);
+    while value < LAST_DIGIT {
+        let Some((digit, more)) = next_digit(rest) else {
+            break;
+        };
+        value = value * 10 + digit;
         count += 1;
         rest = more;
     }
@@ -92,7 +97,7 @@ pub fn number(bytes: &[u8]) -> Option<(u64, &[u8])>
     ensures none { IfNone result ((n : ℕ) (rest : List ℕ) → BeginsWith bytes.now n rest → ⊥) }
 {
     let run = digits_of(bytes);
-    if run.count == 0 || run.count > MOST_DIGITS {
+    if run.count == 0 {
         return None;
     }
     if run.count > 1 && begins(bytes, b'0') {

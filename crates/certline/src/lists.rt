@@ -1,6 +1,6 @@
 //! Lines of sets and tours, by what stands behind their first word.
 
-ghost use Rattle.std.specs.Prelude.{◌≡◌, ℕ, ◌^◌, ◌<◌, ◌≤◌, ◌++◌, ◌∷◌, List, true, length, codes, IfOk, IfSome, IfNone};
+ghost use Rattle.std.specs.Prelude.{◌≡◌, ℕ, ◌^◌, ◌<◌, ◌≤◌, ◌++◌, [], ◌∷◌, List, true, length, codes, IfOk, IfSome, IfNone};
 ghost use Rattle.certdef.specs.Items.{longest, is_set, rises, each_below};
 ghost use Rattle.certline.specs.Spelling.{EndsWord, spaced};
 ghost use Rattle.certline.specs.Said.{ReadsAs};
@@ -34,14 +34,26 @@ fn numbers(alloc: Global, tail: &[u8]) -> Result<Option<Vec<u64>>, AllocError>
     Ok(Some(numbers))
 }
 
-/// Cities of the `n` that rise strictly.
-fn cities(alloc: Global, n: u32, tail: &[u8]) -> Result<Option<Vec<u32>>, AllocError>
+/// Room for so many numbers, but for no more than such a text may spell: each takes two bytes or more.
+fn room(alloc: Global, many: u64, tail: &[u8]) -> Result<Vec<u32>, AllocError>
+    ensures { IfOk result (λ v. v.items ≡ []) }
+{
+    let most = tail.len() / 2;
+    if many < most as u64 {
+        Vec::with_capacity(alloc, many as usize)
+    } else {
+        Vec::with_capacity(alloc, most)
+    }
+}
+
+/// Cities of the `n` that rise strictly, of which there should be so many.
+fn cities(alloc: Global, n: u32, many: u64, tail: &[u8]) -> Result<Option<Vec<u32>>, AllocError>
     ensures some { IfOk result (λ o. IfSome o (λ v. tail.now ≡ spaced v.items)) }
     ensures rise { IfOk result (λ o. IfSome o (λ v. rises 1 n v.items ≡ true)) }
     ensures none { IfOk result (λ o. IfNone o ((s : List ℕ) → rises 1 n s ≡ true → tail.now ≡ spaced s → ⊥)) }
     ensures only { IfOk result (λ o. IfSome o (λ v. (s : List ℕ) → rises 1 n s ≡ true → tail.now ≡ spaced s → s ≡ v.items)) }
 {
-    let mut cities = Vec::new(alloc);
+    let mut cities = room(alloc, many, tail)?;
     let mut least = 1u64;
     let mut rest = tail;
     while !rest.is_empty() {
@@ -67,7 +79,7 @@ fn set(alloc: Global, n: u32, tail: &[u8]) -> Result<Option<Vec<u32>>, AllocErro
     let Some((many, rest)) = next(tail) else {
         return Ok(None);
     };
-    let Some(cities) = cities(alloc, n, rest)? else {
+    let Some(cities) = cities(alloc, n, many, rest)? else {
         return Ok(None);
     };
     if many == 0 {

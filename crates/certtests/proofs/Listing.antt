@@ -1,5 +1,5 @@
 -- Cities from 0 and from 1, and cuts that are listed.
-use Rattle.std.proofs.Common.{◌≡◌, ℕ, ◌+◌, ◌-◌, ◌≤◌, Bool, true, false, ◌&&◌, List, [], ◌∷◌, length, map, refl, sym, ap, ◌∙◌, subst, arith, ◌↔◌, IsTrue}
+use Rattle.std.proofs.Common.{◌≡◌, ℕ, suc, ◌+◌, ◌-◌, ◌<◌, ◌≤◌, Bool, true, false, ◌&&◌, List, [], ◌∷◌, ◌++◌, length, take, drop, get_or, map, refl, sym, ap, ◌∙◌, subst, arith, ◌↔◌, IsTrue}
 use Rattle.std.specs.Prelude.{nat_lt, nat_le}
 use Rattle.std.specs.List.{AllByRecursion}
 use Rattle.std.proofs.lemmas.Bool.{and_parts, leb-true, false_from_ne_true, false≢true}
@@ -48,6 +48,24 @@ set_is_set n s e = rises_lowered n 1 s (omega arith) (and_parts (nat_lt 0 (lengt
 pub set_again : (n : ℕ) (s : List ℕ) → is_set n s ≡ true → to_one (from_zero s) ≡ s
 set_again n s e = one_of_zero n 1 s (omega arith) (and_parts (nat_lt 0 (length s)) (rises 1 n s) e).1
 
+-- a list of the numbers of another, each less by one
+pub lowered_each : (xs ys : List ℕ) → length ys ≡ length xs → ((k : ℕ) → k < length xs → get_or ys k 0 ≡ get_or xs k 0 - 1) → ys ≡ from_zero xs
+lowered_each [] [] l h = refl
+lowered_each [] (y ∷ ys) l h = absurd (omega arith)
+lowered_each (x ∷ xs) [] l h = absurd (omega arith)
+lowered_each (x ∷ xs) (y ∷ ys) l h =
+    ap (λ z. z ∷ ys) (h 0 (omega arith)) ∙ ap (λ zs. (x - 1) ∷ zs) (lowered_each xs ys (omega arith) (λ k b. h (suc k) (omega arith)))
+
+-- a list written over another one as long as it
+written : (xs ys : List ℕ) → length ys ≡ length xs → take (length xs) (ys ++ drop (length ys) xs) ≡ ys
+written [] [] l = refl
+written [] (y ∷ ys) l = absurd (omega arith)
+written (x ∷ xs) [] l = absurd (omega arith)
+written (x ∷ xs) (y ∷ ys) l = ap (λ zs. y ∷ zs) (written xs ys (omega arith))
+
+pub all_written : (m : ℕ) (xs ys : List ℕ) → m ≡ length xs → length ys ≡ length xs → take m (ys ++ drop (length ys) xs) ≡ ys
+all_written m xs ys e l = ap (λ k. take k (ys ++ drop (length ys) xs)) e ∙ written xs ys l
+
 -- what decides that a set is proper is the test
 pub proper_decided : (n : ℕ) (s : List ℕ) (r : Bool) → IsTrue r ↔ IsProper n s → r ≡ is_proper n s
 proper_decided n s true h = sym (yes_proper n s (h.0 refl))
@@ -59,12 +77,13 @@ zeros_of_ones : (ts : List (List ℕ)) → map from_zero (map to_one ts) ≡ ts
 zeros_of_ones [] = refl
 zeros_of_ones (t ∷ ts) = ap (λ x. x ∷ map from_zero (map to_one ts)) (zero_of_one t) ∙ ap (λ xs. t ∷ xs) (zeros_of_ones ts)
 
-pub pairs_of_ones : (ps : List (ℕ × ℕ)) → map pair_from_zero (map pair_to_one ps) ≡ ps
+pairs_of_ones : (ps : List (ℕ × ℕ)) → map pair_from_zero (map pair_to_one ps) ≡ ps
 pairs_of_ones [] = refl
 pairs_of_ones (p ∷ ps) =
-    let e : p.0 + 1 - 1 ≡ p.0 = omega arith in
-    let f : p.1 + 1 - 1 ≡ p.1 = omega arith in
-    ap (λ x. (x, p.1 + 1 - 1) ∷ map pair_from_zero (map pair_to_one ps)) e ∙ (ap (λ x. (p.0, x) ∷ map pair_from_zero (map pair_to_one ps)) f ∙ ap (λ xs. p ∷ xs) (pairs_of_ones ps))
+    let u : p.0 + 1 - 1 ≡ p.0 = omega arith in
+    let v : p.1 + 1 - 1 ≡ p.1 = omega arith in
+    ap (λ x. (x, p.1 + 1 - 1) ∷ map pair_from_zero (map pair_to_one ps)) u
+    ∙ (ap (λ x. (p.0, x) ∷ map pair_from_zero (map pair_to_one ps)) v ∙ ap (λ qs. p ∷ qs) (pairs_of_ones ps))
 
 -- the cut that is listed is the cut again
 pub cut_again : (n : ℕ) (c : Cut) → IsCut n c → cut_of n (listed c) ≡ c
@@ -74,7 +93,7 @@ cut_again n (comb m h ts) k =
     ∙ (ap (λ us. comb n h us) (zeros_of_ones ts) ∙ ap (λ j. comb j h ts) (sym k.0))
 cut_again n (odd m h ps) k =
     ap (λ t. odd n t (map pair_from_zero (map pair_to_one ps))) (zero_of_one h)
-    ∙ (ap (λ us. odd n h us) (pairs_of_ones ps) ∙ ap (λ j. odd j h ps) (sym k.0))
+    ∙ (ap (λ qs. odd n h qs) (pairs_of_ones ps) ∙ ap (λ j. odd j h ps) (sym k.0))
 
 pub cuts_again : (n : ℕ) (cs : List Cut) → AllByRecursion (IsCut n) cs → cuts_of n (map listed cs) ≡ cs
 cuts_again n [] k = refl
@@ -113,10 +132,12 @@ comb_listed n c h ts e = ap listed e ∙ ap (λ us. comb_cut (to_one h) us) (tee
 
 -- an odd cut of cities from 1
 odd_again : (n : ℕ) (h : List ℕ) (ps : List (ℕ × ℕ)) → is_cut n (cut_of n (odd_cut (to_one h) (map pair_to_one ps))) ≡ is_cut n (odd n h ps)
-odd_again n h ps = ap (λ t. is_cut n (odd n t (map pair_from_zero (map pair_to_one ps)))) (zero_of_one h) ∙ ap (λ us. is_cut n (odd n h us)) (pairs_of_ones ps)
+odd_again n h ps =
+    ap (λ t. is_cut n (odd n t (map pair_from_zero (map pair_to_one ps)))) (zero_of_one h) ∙ ap (λ qs. is_cut n (odd n h qs)) (pairs_of_ones ps)
 
 pub odd_passes : (n : ℕ) (h : List ℕ) (ps : List (ℕ × ℕ)) → IsOdd n h ps → is_cut n (cut_of n (odd_cut (to_one h) (map pair_to_one ps))) ≡ true
 odd_passes n h ps p = odd_again n h ps ∙ yes_cut n (odd n h ps) (refl, p)
 
 pub odd_fails : (n : ℕ) (h : List ℕ) (ps : List (ℕ × ℕ)) → (IsOdd n h ps → ⊥) → is_cut n (cut_of n (odd_cut (to_one h) (map pair_to_one ps))) ≡ false
-odd_fails n h ps refuted = odd_again n h ps ∙ false_from_ne_true (is_cut n (odd n h ps)) (λ e. refuted (cut_yes n (odd n h ps) e).1)
+odd_fails n h ps refuted =
+    odd_again n h ps ∙ false_from_ne_true (is_cut n (odd n h ps)) (λ e. refuted (cut_yes n (odd n h ps) e).1)

@@ -37,7 +37,7 @@ pub fn comb(alloc: Global, handle: CitySet, teeth: Vec<CitySet>) -> Result<Optio
     }
 }
 
-/// The odd cut of a handle and pairs, if it is a cut.
+/// The odd cut of a handle and pairs of cities from 0, if it is a cut.
 pub fn odd(
     alloc: Global,
     handle: CitySet,
@@ -45,7 +45,8 @@ pub fn odd(
 ) -> Result<Option<Cut>, AllocError>
     ensures found { IfOk result (λ o. is_some o
         ≡ is_cut handle.n (cut_of handle.n (odd_cut (to_one handle.cities) (map pair_to_one pairs.items)))) }
-    ensures value { IfOk result (λ o. IfSome o (λ c. listed c ≡ odd_cut (to_one handle.cities) (map pair_to_one pairs.items))) }
+    ensures value { IfOk result (λ o. IfSome o (λ c. listed c
+        ≡ odd_cut (to_one handle.cities) (map pair_to_one pairs.items))) }
     ensures is_cut { IfOk result (λ o. IfSome o (λ c. IsCut handle.n c)) }
 {
     match Cut::odd(alloc, handle, pairs) {

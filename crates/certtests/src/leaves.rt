@@ -55,12 +55,12 @@ fn is_on_set(condition: Option<&Cond>) -> bool
     matches!(condition, Some(Cond::Two(_) | Cond::Four(_)))
 }
 
-/// Whether the duals of a leaf close it for a bound, so that no tour there is shorter: of cities from 1, of cuts by their numbers in the list, and of
+/// Whether the duals of a leaf close it for the bound that a text tells: of cities from 1, of cuts by their numbers in the list, and of
 /// conditions on sets by their depth on the leaf's path. One pass over all pairs, and O(n + sizes of the named cuts).
 pub fn closes(
     alloc: Global,
     instance: &Instance,
-    least: u64,
+    told: u64,
     cuts: &[Cut],
     path: &Path,
     cities: &[(u32, i64)],
@@ -70,7 +70,7 @@ pub fn closes(
     requires cities_of { path.now.n ≡ instance.now.n }
     requires cuts { AllByRecursion (IsCut instance.now.n) cuts.now }
     requires duals { AreDuals (length cuts.now) path.now.conditions 0 0 (record { cities = cities.now; cuts = cut_duals.now; conds = condition_duals.now }) }
-    ensures { IfOk result (λ b. b ≡ closes_leaf instance.now least (map listed cuts.now) path.now.conditions (record { cities = cities.now; cuts = cut_duals.now; conds = condition_duals.now })) }
+    ensures { IfOk result (λ b. b ≡ closes_leaf instance.now told (map listed cuts.now) path.now.conditions (record { cities = cities.now; cuts = cut_duals.now; conds = condition_duals.now })) }
 {
     let closing = closing_of(
         alloc,
@@ -80,14 +80,14 @@ pub fn closes(
         cut_duals,
         condition_duals,
     )?;
-    Ok(exceeds(instance, least, path, &closing))
+    Ok(exceeds(instance, told, path, &closing))
 }
 
-/// Whether a closing's bound exceeds what no tour being shorter than this needs.
-fn exceeds(instance: &Instance, least: u64, path: &Path, closing: &Closing) -> bool
+/// Whether a closing's bound exceeds what a bound for all tours needs.
+fn exceeds(instance: &Instance, told: u64, path: &Path, closing: &Closing) -> bool
     requires cities { path.now.n ≡ instance.now.n }
     requires closing { IsClosing instance.now.n path.now.conditions closing.now }
-    ensures { result ≡ lt_z (bounds.needed least) (bounds.bound instance.now path.now.conditions closing.now) }
+    ensures { result ≡ lt_z (bounds.needed told) (bounds.bound instance.now path.now.conditions closing.now) }
 {
-    bound(instance, path, closing) > needed(least)
+    bound(instance, path, closing) > needed(told)
 }

@@ -1,6 +1,6 @@
 //! The tests that the lines of a proof text are judged by, as calls: each answers what the test's definition says.
 //!
-//! - [`city_set`] and [`is_proper`] are of sets, [`subtour`] and [`comb`] of cuts.
+//! - [`city_set`] and [`is_proper`] are of sets, [`subtour`], [`comb`] and [`odd`] of cuts.
 //! - [`canonical_tour`] and [`has_length`] are of the tour.
 //! - [`names_clique`] and [`closes`] are of closed leaves.
 #![tactic(auto)]

@@ -16,22 +16,22 @@ pub fn city_set(alloc: Global, n: u32, set: Vec<u32>) -> Result<CitySet, AllocEr
     ensures value { IfOk result (λ s. s ≡ record { n = n; cities = lowered set.items }) }
     ensures again { IfOk result (λ s. to_one s.cities ≡ set.items) }
 {
-    let cities = from_zero(alloc, &set)?;
-    match CitySet::new(alloc, n, cities) {
+    match CitySet::new(alloc, n, from_zero(set)) {
         Ok(set) => Ok(set),
         Err(CitySetError::NotRising) => unreachable!(),
         Err(CitySetError::NoMemory) => Err(AllocError),
     }
 }
 
-/// Cities from 0, of cities from 1.
-fn from_zero(alloc: Global, cities: &[u32]) -> Result<Vec<u32>, AllocError>
-    ensures { IfOk result (λ v. v.items ≡ lowered cities.now) }
+/// Cities from 0, of cities from 1, in the same memory.
+fn from_zero(set: Vec<u32>) -> Vec<u32>
+    ensures { result.items ≡ lowered set.items }
 {
+    let mut cities = set;
+    for city in cities.iter_mut() {
+        *city = city.saturating_sub(1);
+    }
     cities
-        .iter()
-        .map(|city| city.saturating_sub(1))
-        .collect(alloc)
 }
 
 /// Whether the set is neither empty nor all cities.

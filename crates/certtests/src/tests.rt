@@ -3,7 +3,9 @@
 ghost use Rattle.std.specs.Prelude.{◌≡◌, ◌≤◌, true, IfOk};
 ghost use Rattle.certdef.specs.Items.{is_set};
 
-use crate::{canonical_tour, city_set, closes, comb, has_length, is_proper, names_clique, subtour};
+use crate::{
+    canonical_tour, city_set, closes, comb, has_length, is_proper, names_clique, odd, subtour,
+};
 use branchx::{Cond, Path};
 use cutform::Kind;
 use cyc::CitySet;
@@ -82,6 +84,21 @@ fn combs(rt: HostRuntime) -> Result<(), Fail> {
     meeting.push(set(alloc, &[2, 4])?)?;
     meeting.push(set(alloc, &[3, 6])?)?;
     assert!(rt; comb(alloc, set(alloc, &[1, 2, 3])?, meeting)?.is_none());
+    Ok(())
+}
+
+#[test]
+fn odd_cuts(rt: HostRuntime) -> Result<(), Fail> {
+    let alloc = rt.alloc();
+    let across = [(0, 3), (1, 4), (2, 5)];
+    let pairs = Vec::from_slice(alloc, &across)?;
+    let cut = odd(alloc, set(alloc, &[1, 2, 3])?, pairs)?.ok_or("no cut")?;
+    assert_eq!(rt; cut.kind(), Kind::Odd);
+    assert_eq!(rt; cut.rhs(), 10);
+    let two = Vec::from_slice(alloc, &across[..2])?;
+    assert!(rt; odd(alloc, set(alloc, &[1, 2, 3])?, two)?.is_none());
+    let inside = Vec::from_slice(alloc, &[(0, 1), (1, 4), (2, 5)])?;
+    assert!(rt; odd(alloc, set(alloc, &[1, 2, 3])?, inside)?.is_none());
     Ok(())
 }
 

@@ -315,6 +315,34 @@ fn cities_and_cuts_are_those_of_the_instance(rt: HostRuntime) -> Result<(), Fail
     Ok(())
 }
 
+/// The bound of two triangles, in lengths, under one odd cut of the first of them, whose dual is one length.
+fn bound_of_odd(rt: &impl Abort, alloc: Global, pairs: &[(u32, u32)]) -> Result<i128, Fail> {
+    let handle = set(alloc, 6, &[0, 1, 2])?;
+    let cut = Cut::odd(alloc, handle, Vec::from_slice(alloc, pairs)?)?;
+    let mut cuts = Vec::new(alloc);
+    cuts.push((cut, 1 << 20))?;
+    let closing = closing_with(alloc, cuts, &[])?;
+    let path = Path::new(alloc, 6);
+    Ok(bound_of(rt, &two_triangles(alloc)?, &path, &closing) >> 20)
+}
+
+#[test]
+fn pairs_of_odd_cuts_count_at_both_ends(rt: HostRuntime) -> Result<(), Fail> {
+    // each side of a triangle has length 1 and crosses two pairs; 10 - 6
+    assert_eq!(rt;
+        bound_of_odd(&rt, rt.alloc(), &[(0, 3), (1, 4), (2, 5)])?,
+        4
+    );
+    // two sides cross three pairs, one none, and three cross two; 10 - 4 - 3
+    assert_eq!(rt;
+        bound_of_odd(&rt, rt.alloc(), &[(0, 3), (0, 4), (0, 5)])?,
+        3
+    );
+    // two sides of either triangle cross one pair, which costs all that it has; 4 - 0
+    assert_eq!(rt; bound_of_odd(&rt, rt.alloc(), &[(0, 3)])?, 4);
+    Ok(())
+}
+
 #[test]
 fn too_many_cuts_are_a_misfit(rt: HostRuntime) -> Result<(), Fail> {
     let alloc = rt.alloc();

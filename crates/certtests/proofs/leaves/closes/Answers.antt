@@ -23,4 +23,4 @@ returns c =
     let cuts = c.args.cuts.now in
     let d : Duals = record { cities = c.args.cities.now; cuts = c.args.cut_duals.now; conds = c.args.condition_duals.now } in
     let same : c.in_ok-closing.closing ≡ closing_of i.n cuts d = c.in_ok-closing.ensures ∙ ap (λ n. closing_of n cuts d) c.n.ensures.same in
-    c.exceeds.ensures ∙ (ap (λ k. lt_z (needed c.args.least) (bound i path k)) same ∙ sym (closes_listed i c.args.least cuts path d c.requires.cuts))
+    c.exceeds.ensures ∙ (ap (λ k. lt_z (needed c.args.told) (bound i path k)) same ∙ sym (closes_listed i c.args.told cuts path d c.requires.cuts))
