@@ -204,7 +204,7 @@ sum_cities f (t ∷ ts) =
     omega arith
 
 weight_append : (rows : List (List Near)) (ss ts : List (List ℕ)) → sets_weight rows (ss ++ ts) ≡ sets_weight rows ss + sets_weight rows ts
-weight_append rows [] ts = refl
+weight_append rows [] ts = omega arith
 weight_append rows (s ∷ ss) ts =
     let ih = weight_append rows ss ts in
     let a = sum_by-cons (set_weight rows) s (ss ++ ts) in
@@ -250,3 +250,11 @@ none_is x c rows sets pairs room a r is e f g h =
     ∙ plain_test x c rows a r is where
       none : (s p w m : ℕ) → s + p ≡ w → m < s → false ≡ nat_le w m
       none s p w m e l = same_tests false (nat_le w m) (λ t. absurd (false≢true t)) (λ t. let k = leb-true w m t in absurd (omega arith))
+
+-- where the next number is more than what is left, so are all numbers together
+pub none_step : (left w before upto all room : ℕ) → upto ≡ before + w → upto ≤ all → left < w → left + before ≡ room → room < all
+none_step left w before upto all room m a l e = omega arith
+
+-- what is left behind the next number
+pub left_step : (left rest w before upto room : ℕ) → upto ≡ before + w → rest + w ≡ left → left + before ≡ room → rest + upto ≡ room
+left_step left rest w before upto room m r e = omega arith

@@ -49,14 +49,23 @@ fn without_sets(rows: &[Row], sets: &[CitySet], room: u64) -> Option<u64>
 fn are_within(rows: &[Row], pairs: &[(u32, u32)], room: u64) -> bool
     ensures { result ≡ nat_le (sum_by (λ p. set_weight rows.now (pair_set p)) pairs.now) room }
 {
+    without_pairs(rows, pairs, room).is_some()
+}
+
+/// What is left of `room` without what crosses the pairs, where there is as much.
+fn without_pairs(rows: &[Row], pairs: &[(u32, u32)], room: u64) -> Option<u64>
+    ensures { MatchOption result
+        (room < sum_by (λ p. set_weight rows.now (pair_set p)) pairs.now)
+        (λ left. left + sum_by (λ p. set_weight rows.now (pair_set p)) pairs.now ≡ room) }
+{
     let mut left = room;
     for pair in pairs {
         match without_pair(rows, *pair, left) {
             Some(rest) => left = rest,
-            None => return false,
+            None => return None,
         }
     }
-    true
+    Some(left)
 }
 
 /// What is left of `room` without what crosses a pair as a set of two cities, where there is as much.

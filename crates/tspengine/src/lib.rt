@@ -21,6 +21,10 @@ pub use running::run;
 pub use statuses::Status;
 
 #[cfg(test)]
+mod changed_bytes;
+#[cfg(test)]
+mod failing_calls;
+#[cfg(test)]
 mod fixed_edges;
 #[cfg(test)]
 mod tests;

@@ -6,7 +6,6 @@ ghost use Rattle.std.specs.Prelude.{◌<◌};
 use crate::{Status, run};
 use cyc::Tour;
 use ports::{Inlet, MemDesk, MemSlots, Room, SlotCall};
-use slotstore::Store;
 use std::alloc::{AllocError, Global};
 use std::test::Fail;
 use tspgen::make;
@@ -14,10 +13,10 @@ use tspplain::search::least_tour;
 use tspplain::tours::tour_length;
 use tspplain::values::Instance;
 
-const SQUARE: &str =
+pub(crate) const SQUARE: &str =
     "NAME : square\nTYPE : TSP\nDIMENSION : 4\nEDGE_WEIGHT_TYPE : EUC_2D\nNODE_COORD_SECTION\n1 0 0\n2 0 10\n3 10 10\n4 10 0\nEOF\n";
 
-const ROOM: Room = Room {
+pub(crate) const ROOM: Room = Room {
     bytes: 1 << 20,
     paths: 64,
     calls: 100_000,
@@ -25,15 +24,15 @@ const ROOM: Room = Room {
 
 /// What is to fail.
 #[derive(Clone, Copy, Drop)]
-struct Faults<'a> {
-    most_write: usize,
-    bad_binds: &'a [u64],
-    bad_reads: &'a [u64],
-    bad_writes: &'a [u64],
-    bad_slots: &'a [(SlotCall, u64)],
+pub(crate) struct Faults<'a> {
+    pub(crate) most_write: usize,
+    pub(crate) bad_binds: &'a [u64],
+    pub(crate) bad_reads: &'a [u64],
+    pub(crate) bad_writes: &'a [u64],
+    pub(crate) bad_slots: &'a [(SlotCall, u64)],
 }
 
-const NONE: Faults<'static> = Faults {
+pub(crate) const NONE: Faults<'static> = Faults {
     most_write: 65_536,
     bad_binds: &[],
     bad_reads: &[],
@@ -65,7 +64,7 @@ impl Ended {
     }
 }
 
-fn words(alloc: Global, line: &str) -> Result<Vec<String>, AllocError> {
+pub(crate) fn words(alloc: Global, line: &str) -> Result<Vec<String>, AllocError> {
     let mut words = Vec::new(alloc);
     for word in line.split(' ') {
         words.push(format!(in alloc; "{word}")?)?;
@@ -74,7 +73,12 @@ fn words(alloc: Global, line: &str) -> Result<Vec<String>, AllocError> {
 }
 
 /// Runs the words of a line on an instance's text.
-fn run_with(alloc: Global, line: &str, text: &str, faults: &Faults<'_>) -> Result<Ended, AllocError>
+pub(crate) fn run_with(
+    alloc: Global,
+    line: &str,
+    text: &str,
+    faults: &Faults<'_>,
+) -> Result<Ended, AllocError>
     requires { 0 < faults.now.most_write }
 {
     let mut desk = MemDesk::new(
@@ -181,6 +185,13 @@ fn proofs_are_verified_and_refused(rt: HostRuntime) -> Result<(), Fail> {
     assert_eq!(rt; checked.slots.slot(0), b"old".as_slice());
     assert_eq!(rt; checked.slots.slot(1), b"new".as_slice());
     assert_eq!(rt; checked.slots.entries().len(), 0);
+    let within = verified(
+        alloc,
+        SQUARE,
+        b"TSPCERT 2\nN 4\nLENGTH 40\nBOUND 0\nTOUR 1 2 3 4\nCUTS 0\nL 0 0 0\n",
+    )?;
+    assert_eq!(rt; within.status, Status::VerifiedWithin);
+    assert_eq!(rt; within.text(), b"WITHIN 40 0\n".as_slice());
     let refused = verified(alloc, SQUARE, b"")?;
     assert_eq!(rt; refused.status, Status::Refused);
     assert_eq!(rt; refused.text(), b"REFUSED 1 1\n".as_slice());
@@ -383,7 +394,7 @@ fn a_seed_chooses_the_tour(rt: HostRuntime) -> Result<(), Fail> {
 }
 
 /// Its cities in their order cross, and make a tour of length 48.
-const CROSSED: &str =
+pub(crate) const CROSSED: &str =
     "TYPE : TSP\nDIMENSION : 4\nEDGE_WEIGHT_TYPE : EUC_2D\nNODE_COORD_SECTION\n1 0 0\n2 10 10\n3 0 10\n4 10 0\n";
 
 #[test]
@@ -439,43 +450,6 @@ fn each_path_is_bound_once_where_it_is_used(rt: HostRuntime) -> Result<(), Fail>
         );
     }
     Ok(())
-}
-
-#[test]
-fn a_failing_save_leaves_the_other_slot(rt: HostRuntime) -> Result<(), Fail> {
-    let alloc = rt.alloc();
-    let first = solved(alloc, "tspc solve a b c --budget 0", SQUARE)?;
-    let kept = first.slots.slot(0);
-    for k in 1..first.slots.entries().len() + 1 {
-        let bad = [(SlotCall::Any, k as u64)];
-        let mut desk = MemDesk::new(
-            alloc,
-            CROSSED.as_bytes(),
-            b"",
-            4096,
-            65_536,
-            &[],
-            &[],
-            &[],
-            ROOM,
-        )?;
-        let mut slots = MemSlots::new(alloc, kept, b"", &bad, ROOM)?;
-        let words = words(alloc, "tspc solve a b c --budget 0")?;
-        let status = run(&(), alloc, &words, &mut desk, &mut slots);
-        assert_eq!(rt; status, Status::StoreFault);
-        assert_eq!(rt; slots.slot(0), kept);
-        assert_eq!(rt; desk.text(), b"".as_slice());
-        // The gate of the other slot is not open yet, and the body of the first run loads.
-        let body = body_in(alloc, &mut slots);
-        assert_eq!(rt; body.as_ref().map(|body| body.as_slice()), kept.get(10..));
-    }
-    Ok(())
-}
-
-/// The body that slots hold.
-fn body_in(alloc: Global, slots: &mut MemSlots) -> Option<Vec<u8>> {
-    let store = Store::begin(slots).ok()?;
-    store.load(alloc, slots).ok()?
 }
 
 #[test]
@@ -564,159 +538,6 @@ fn other_words_are_usage(rt: HostRuntime) -> Result<(), Fail> {
             b"USAGE tspc solve/verify/tour/bench\n".as_slice()
         );
         assert_eq!(rt; ended.desk.proof(), b"".as_slice());
-    }
-    Ok(())
-}
-
-#[test]
-fn a_failing_write_leaves_a_front(rt: HostRuntime) -> Result<(), Fail> {
-    let alloc = rt.alloc();
-    let whole = solved(alloc, "tspc solve a b c", SQUARE)?;
-    let proof = whole.desk.proof().len();
-    let ended = run_with(
-        alloc,
-        "tspc solve a b c",
-        SQUARE,
-        &Faults {
-            most_write: 1,
-            bad_writes: &[5],
-            ..NONE
-        },
-    )?;
-    assert_eq!(rt; ended.status, Status::WriteFault);
-    assert_eq!(rt; ended.desk.proof(), b"TSPC".as_slice());
-    assert_eq!(rt; ended.text(), b"".as_slice());
-    let writes = proof + whole.text().len();
-    for k in 1..writes + 1 {
-        let bad = [k as u64];
-        let cut = run_with(
-            alloc,
-            "tspc solve a b c",
-            SQUARE,
-            &Faults {
-                most_write: 1,
-                bad_writes: &bad,
-                ..NONE
-            },
-        )?;
-        assert_eq!(rt; cut.status, Status::WriteFault);
-        assert_eq!(rt; cut.desk.proof().len(), proof.min(k - 1));
-        assert_eq!(rt; cut.text().len(), k - 1 - proof.min(k - 1));
-        assert!(rt; whole.desk.proof().starts_with(cut.desk.proof()));
-        assert!(rt; whole.text().starts_with(cut.text()));
-    }
-    let unbound = run_with(
-        alloc,
-        "tspc solve a b c",
-        SQUARE,
-        &Faults {
-            bad_binds: &[2],
-            ..NONE
-        },
-    )?;
-    assert_eq!(rt; unbound.status, Status::WriteFault);
-    assert_eq!(rt; unbound.desk.proof(), b"".as_slice());
-    Ok(())
-}
-
-#[test]
-fn a_failing_read_is_told(rt: HostRuntime) -> Result<(), Fail> {
-    let alloc = rt.alloc();
-    for k in 1..3 {
-        let bad = [k];
-        let ended = run_with(
-            alloc,
-            "tspc solve a b c",
-            SQUARE,
-            &Faults {
-                bad_reads: &bad,
-                ..NONE
-            },
-        )?;
-        assert_eq!(rt; ended.status, Status::ReadFault);
-        assert_eq!(rt; ended.text(), b"".as_slice());
-    }
-    let unbound = run_with(
-        alloc,
-        "tspc solve a b c",
-        SQUARE,
-        &Faults {
-            bad_binds: &[1],
-            ..NONE
-        },
-    )?;
-    assert_eq!(rt; unbound.status, Status::ReadFault);
-    let past = run_with(
-        alloc,
-        "tspc solve a b c",
-        SQUARE,
-        &Faults {
-            bad_reads: &[3],
-            ..NONE
-        },
-    )?;
-    assert_eq!(rt; past.status, Status::Optimal);
-    Ok(())
-}
-
-#[test]
-fn failing_slots_matter_where_they_are_used(rt: HostRuntime) -> Result<(), Fail> {
-    let alloc = rt.alloc();
-    let bad = [
-        (SlotCall::Write, 1),
-        (SlotCall::Write, 2),
-        (SlotCall::Write, 3),
-    ];
-    let unused = run_with(
-        alloc,
-        "tspc solve a b c",
-        SQUARE,
-        &Faults {
-            bad_slots: &bad,
-            ..NONE
-        },
-    )?;
-    assert_eq!(rt; unused.status, Status::Optimal);
-    assert_eq!(rt; unused.text(), b"OPTIMAL 40\nTOUR 1 2 3 4\n".as_slice());
-    let used = run_with(
-        alloc,
-        "tspc solve a b c --budget 0",
-        SQUARE,
-        &Faults {
-            bad_slots: &bad,
-            ..NONE
-        },
-    )?;
-    assert_eq!(rt; used.status, Status::StoreFault);
-    assert_eq!(rt; used.text(), b"".as_slice());
-    // A first read that fails stands in the way of both.
-    for line in ["tspc solve a b c", "tspc solve a b c --budget 0"] {
-        let unread = run_with(
-            alloc,
-            line,
-            SQUARE,
-            &Faults {
-                bad_slots: &[(SlotCall::Read, 1)],
-                ..NONE
-            },
-        )?;
-        assert_eq!(rt; unread.status, Status::StoreFault);
-        assert_eq!(rt; unread.text(), b"".as_slice());
-    }
-    let whole = solved(alloc, "tspc solve a b c --budget 0", SQUARE)?;
-    for k in 0..whole.slots.entries().len() {
-        let one = [(SlotCall::Any, k as u64 + 1)];
-        let ended = run_with(
-            alloc,
-            "tspc solve a b c --budget 0",
-            SQUARE,
-            &Faults {
-                bad_slots: &one,
-                ..NONE
-            },
-        )?;
-        assert_eq!(rt; ended.status, Status::StoreFault);
-        assert_eq!(rt; ended.text(), b"".as_slice());
     }
     Ok(())
 }

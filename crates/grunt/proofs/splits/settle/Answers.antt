@@ -1,13 +1,14 @@
 use Rattle.std.proofs.Common.{◌≡◌, ℕ, ◌<ℤ◌, ◌≤ℤ◌, ℤ, sym, subst, ap, ◌∙◌, arith, ⊎_elim}
-use Rattle.std.specs.Prelude.{IfNone}
+use Rattle.std.specs.Prelude.{IfNone, IfSome}
 use Rattle.std.proofs.lemmas.Int.{ints}
+use Rattle.tspdef.specs.Instances.{IsTourOf}
 use Rattle.tspdef.specs.Paths.{DecidesAll}
 use Rattle.tspdef.specs.Bounds.{bound, needed}
 use Rattle.tspdef.specs.Rays.{zero_closing}
 use Rattle.tspdef.specs.Closings.{Closing}
 use Rattle.nodelp.specs.Duals.{closing_of, newest_duals}
 use Rattle.worker.specs.Splits.{level}
-use Rattle.worker.specs.Works.{best_after}
+use Rattle.worker.specs.Works.{best_after, IsReport}
 use Rattle.grunt.proofs.splits.settle.Goals as goal
 
 pub branch_at-requires-clause-undecided : goal.branch_at-requires-clause-undecided
@@ -32,3 +33,24 @@ returns-in_ok-branch-in-None-clause-explained c =
           (subst (λ o. IfNone o (bound i path (zero_closing i.n) ≤ℤ needed c.level-wanted.result)) c.in-None.is c.in_ok-zeros.ensures.none);
       ended = ⊎_elim (λ (h : needed (level best gap) <ℤ newest.bound). absurd (omega (arith, ints, low, h))) (λ rest. rest) c.requires.ended;
     })
+
+pub returns-then-suffices-2-clause-work : goal.returns-then-suffices-2-clause-work
+returns-then-suffices-2-clause-work c =
+    let i = c.args.instance.now in
+    let path = c.args.path.now.conditions in
+    let newest = c.args.newest in
+    let best = c.args.best in
+    let gap = c.args.gap in
+    let tour = c.in_ok-tour.tour in
+    let work = c.closed-then-suffices-2 in
+    let l = level (best_after i best tour) gap in
+    let lesser : c.level-wanted.result ≡ l = c.level-wanted.ensures.value ∙ ap (λ (m : ℕ). level m gap) c.in_ok-tour.ensures.lesser in
+    let high : needed l <ℤ newest.bound = subst (λ (m : ℕ). needed m <ℤ newest.bound) lesser (c.suffices-2.ensures.more c.if-suffices-2.true) in
+    record {
+      is_tour = subst (λ o. IfSome o (IsTourOf i)) (sym work.ensures.tour) c.in_ok-tour.ensures.tour;
+      report = subst (λ o. IsReport i path (level (best_after i best o) gap) work.result.report) (sym work.ensures.tour)
+          (subst (λ r. IsReport i path l r) (sym work.ensures.report) (record {
+            fits = c.requires.look.fits;
+            exceeds = subst (λ (z : ℤ). needed l <ℤ z) c.requires.look.bound_is high;
+          }));
+    }
