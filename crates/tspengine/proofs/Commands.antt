@@ -256,7 +256,7 @@ untouched c idle = subst (λ (x : Option Told). BothTell (TouchesInstance (insta
 
 verify_idle : (c : Call) → IsIdle c → Verifies status.NoMemory c
 verify_idle c idle = record {
-  desk = inr (inr (inr (inr (inr (refl, both_same (IsSilent (paths_of c.words)) (λ (t : Told). inl refl) c.before.desk c.after.desk idle.desk)))));
+  desk = inr (inr (inr (inr (inr (inr (refl, both_same (IsSilent (paths_of c.words)) (λ (t : Told). inl refl) c.before.desk c.after.desk idle.desk))))));
   slots = idle.slots;
 }
 

@@ -111,7 +111,7 @@ written_stopped faithful_law same_law i budget best opening l t body printed is 
         no_longer = shorter;
         some_open = subst (λ (k : ℕ). 0 < k) (sym faithful.opened) some;
         settled = faithful.settled ∙ spent;
-        needed = alike_split (λ at b. IsNeededSplit i at (opening_length i) b) (root i) t (tree_in i.n (written i.n form l l t)) faithful.alike needed;
+        needed = alike_split (λ at b. IsNeededSplit i at (opening_length i) b 0) (root i) t (tree_in i.n (written i.n form l l t)) faithful.alike needed;
       };
       is_text = bytes ∙ ap (λ (m : ℕ). text (written i.n form m l t)) (sym as_long);
       prints = prints ∙ ap (stopped_text l) (sym faithful.opened);
