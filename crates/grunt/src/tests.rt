@@ -1,5 +1,5 @@
 //! Nodes that are closed, and one that is split, at their roots.
-ghost use Rattle.std.specs.Prelude.{◌≤◌};
+ghost use Rattle.std.specs.Prelude.{◌≤◌, true, false};
 
 use crate::LpWorker;
 use cutform::{Cut, Kind as CutKind};
