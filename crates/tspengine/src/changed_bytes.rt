@@ -1,6 +1,8 @@
 //! Each byte of a proof is changed to five others. A changed text is accepted exactly where the plain definitions accept what its
 //! lines say, with the length and the bound that they say.
 
+ghost use Rattle.std.specs.Prelude.{◌≤◌};
+
 use certcheck::{Answer, Checker, Trouble};
 use certform::{Item, Reader};
 use ports::{MemDesk, Room};
@@ -246,11 +248,9 @@ fn said_by(alloc: Global, items: &[Item]) -> Result<Said, AllocError> {
 }
 
 /// The length and the bound of a text that the plain definitions accept; none where they do not.
-fn accepted(
-    alloc: Global,
-    prism: &Instance,
-    text: &[u8],
-) -> Result<Option<(u64, u64)>, AllocError> {
+fn accepted(alloc: Global, prism: &Instance, text: &[u8]) -> Result<Option<(u64, u64)>, AllocError>
+    requires { prism.now.n ≤ 2000 }
+{
     let Some(items) = items_of(alloc, text)? else {
         return Ok(None);
     };
@@ -289,7 +289,9 @@ fn accepted_changes(
     prism: &tspinst::Instance,
     plain: &Instance,
     text: &[u8],
-) -> Result<u64, Fail> {
+) -> Result<u64, Fail>
+    requires { plain.now.n ≤ 2000 }
+{
     let mut bytes = Vec::from_slice(alloc, text)?;
     let mut count: u64 = 0;
     for (place, byte) in text.iter().enumerate() {
