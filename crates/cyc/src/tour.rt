@@ -119,6 +119,14 @@ impl Tour {
         })
     }
 
+    /// Becomes equal to another tour of as many cities, without memory.
+    pub fn become_equal(&mut self, other: &Tour)
+        requires { length self.old ≡ length other.now }
+        ensures { self.new ≡ other.now }
+    {
+        self.cities.copy_from_slice(&other.cities);
+    }
+
     /// An equal tour.
     pub fn copy(&self, alloc: Global) -> Result<Tour, AllocError>
         ensures { IfOk result (λ tour. tour ≡ self.now) }

@@ -4,3 +4,6 @@ pub mod Prices
 pub mod Marks
 pub mod Rays
 pub mod Rounds
+pub mod Priced
+pub mod PricedInside
+pub mod Pricings

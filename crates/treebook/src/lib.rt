@@ -10,6 +10,7 @@
 mod borne;
 mod laws;
 mod node;
+mod on_path;
 mod tree;
 mod walk;
 
