@@ -10,5 +10,6 @@ pub mod MarkLemmas
 pub mod RowLemmas
 pub mod RingLemmas
 pub mod DegreeLemmas
+pub mod WeightLemmas
 pub mod UnusedLemmas
 pub mod RoundLemmas

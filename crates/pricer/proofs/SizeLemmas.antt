@@ -1,6 +1,6 @@
 use Rattle.std.proofs.Common.{◌≡◌, ℕ, zero, suc, ◌+◌, ◌*◌, ◌^◌, ◌<◌, ◌≤◌, cond, List, [], ◌∷◌, length, arith}
 use Rattle.std.specs.Prelude.{ℤ, pos, negsuc, nat_abs, ◌+ℤ◌, ◌≤ℤ◌, Option, Some, None, slice_index_or}
-use mir.Syntax.{w128}
+use mir.Syntax.{w64, w128}
 use mir.Val.{SFits, to_z, of_z}
 use Rattle.std.specs.Int.{int_min}
 use Rattle.std.specs.List.{AllByRecursion}
@@ -176,3 +176,11 @@ fits128 m (negsuc k) l h = record { sfits = omega (arith, ints) }
 -- so it is read back from its bits
 pub read128 : (m : ℕ) (x : ℤ) → m < 2 ^ 127 → IsWithin m x → to_z w128 (of_z w128 x) ≡ x
 read128 m x l h = to_z-of_z w128 x (fits128 m x l h)
+
+-- the same of 64 bits
+fits64 : (m : ℕ) (x : ℤ) → m < 2 ^ 63 → IsWithin m x → SFits w64 x
+fits64 m (pos k) l h = record { sfits = omega (arith, ints) }
+fits64 m (negsuc k) l h = record { sfits = omega (arith, ints) }
+
+pub read64 : (m : ℕ) (x : ℤ) → m < 2 ^ 63 → IsWithin m x → to_z w64 (of_z w64 x) ≡ x
+read64 m x l h = to_z-of_z w64 x (fits64 m x l h)

@@ -172,7 +172,7 @@ held_conds_size path (q ∷ qs) h c sizes =
 
 -- ---- numbers while duals are added
 
-number_size : (k m : ℕ) (x a l r : ℤ) → x +ℤ l ≡ a +ℤ r → IsWithin m l → IsWithin m r → IsWithin k a → IsWithin (k + m + m) x
+pub number_size : (k m : ℕ) (x a l r : ℤ) → x +ℤ l ≡ a +ℤ r → IsWithin m l → IsWithin m r → IsWithin k a → IsWithin (k + m + m) x
 number_size k m x a l r e hl hr ha = record { low = omega (arith, ints); high = omega (arith, ints) }
 
 pub sets_number_size : (x a : ℤ) (y : ℕ) (h : Option ℕ) (all rest : List (List ℕ)) (c : ℕ) → length all ≤ 4096 → length rest ≤ length all → y ≤ 2 ^ 62 → IsWithin (2 ^ 98) a

@@ -7,3 +7,4 @@ pub mod Rounds
 pub mod Priced
 pub mod PricedInside
 pub mod Pricings
+pub mod Weights

@@ -22,10 +22,12 @@ use crate::closing::Closing;
 use crate::decided::changes;
 use crate::duals::{city_sum, cliques_worth, cuts_worth};
 use crate::holding::mark_held;
+use crate::light_rows::light_rows;
 use crate::numbers::{SCALE, signed};
 use crate::rows::{bare_row_loss, narrow, row_loss};
 use crate::spread::{spread_cliques, spread_cuts};
 use crate::trail::{Front, Trail};
+use crate::weights::is_light;
 use branchx::Path;
 use tspdef::bound_is_below;
 use tspinst::Instance;
@@ -87,14 +89,14 @@ fn zeros() -> [i128; CITIES]
 }
 
 /// A small number for each city.
-fn small_zeros() -> [i64; CITIES]
+pub fn small_zeros() -> [i64; CITIES]
     ensures { length result ≡ 2000 }
 {
     [0; CITIES]
 }
 
 /// No mark on any city.
-fn unmarked() -> [bool; CITIES]
+pub fn unmarked() -> [bool; CITIES]
     ensures { length result ≡ 2000 }
 {
     [false; CITIES]
@@ -157,7 +159,8 @@ fn lay_duals(price: &mut [i128], city: &[i64])
     }
 }
 
-/// How far the pairs of all cities are below 0. Prices that are small are summed up as small numbers.
+/// How far the pairs of all cities are below 0. Prices that are small are summed up as small numbers, and so are the duals of
+/// cuts if they are light.
 fn all_rows<'a, T: Trail<'a>>(
     instance: &Instance,
     trail: T,
@@ -173,10 +176,13 @@ fn all_rows<'a, T: Trail<'a>>(
     ensures size { result ≤ 2 ^ 125 }
 {
     let mut small = small_zeros();
-    if narrow(price, &mut small) {
-        rows(instance, trail, closing, price, Some(&small))
+    if !narrow(price, &mut small) {
+        return rows(instance, trail, closing, price, None);
+    }
+    if is_light(instance.n(), closing) {
+        light_rows(instance, trail, closing, &small)
     } else {
-        rows(instance, trail, closing, price, None)
+        rows(instance, trail, closing, price, Some(&small))
     }
 }
 
@@ -263,7 +269,7 @@ fn row<'a, T: Trail<'a>>(
 
 /// Whether a city is marked.
 #[inline]
-fn is_at(marks: &[bool], city: u32) -> bool
+pub fn is_at(marks: &[bool], city: u32) -> bool
     ensures { result ≡ is_marked marks.now city }
 {
     marks.get(city as usize).copied().unwrap_or(false)

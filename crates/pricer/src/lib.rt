@@ -9,6 +9,8 @@ mod decided;
 mod duals;
 mod fitting;
 mod holding;
+mod light;
+mod light_rows;
 mod numbers;
 mod priced;
 mod rays;
@@ -18,6 +20,7 @@ mod spread;
 #[cfg(test)]
 mod tests;
 mod trail;
+mod weights;
 
 pub use bounds::{bound, bound_on, needed};
 pub use closing::{Closing, Report};

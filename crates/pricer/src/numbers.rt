@@ -23,6 +23,14 @@ pub fn signed(x: u128) -> i128
     x as i128
 }
 
+/// A small number without a sign as a number with one.
+pub fn small_signed(x: u64) -> i64
+    requires { x ≤ 2 ^ 62 }
+    ensures { result ≡ pos x }
+{
+    x as i64
+}
+
 /// A pair's distance, in units, less the numbers at its cities.
 #[inline]
 pub fn less(d: u32, a: i128, b: i128) -> i128
@@ -64,16 +72,31 @@ pub fn small_less(d: u32, a: i64, b: i64) -> i64
     requires b { IsWithin (2 ^ 50) b }
     ensures value { result ≡ pos (scale * d) -ℤ a -ℤ b }
     ensures low { neg_ℤ (pos (2 ^ 51)) ≤ℤ result }
+    ensures high { result ≤ℤ pos (2 ^ 52) }
 {
     SMALL_SCALE * i64::from(d) - a - b
+}
+
+/// The same of small numbers.
+#[inline]
+pub fn small_cost(d: u32, a: i64, b: i64, own: i64) -> i64
+    requires d { d < 2 ^ 30 }
+    requires a { IsWithin (2 ^ 50) a }
+    requires b { IsWithin (2 ^ 50) b }
+    requires own { IsWithin (2 ^ 50) own }
+    ensures value { result ≡ cost_of d a b own }
+    ensures low { neg_ℤ (pos (2 ^ 52)) ≤ℤ result }
+{
+    let alone = small_less(d, a, b);
+    alone + own + own
 }
 
 /// How far a small number is below 0.
 #[inline]
 pub fn small_below_zero(x: i64) -> u64
-    requires { neg_ℤ (pos (2 ^ 51)) ≤ℤ x }
+    requires { neg_ℤ (pos (2 ^ 52)) ≤ℤ x }
     ensures value { neg_ℤ (pos result) ≡ int_min (pos 0) x }
-    ensures size { result ≤ 2 ^ 51 }
+    ensures size { result ≤ 2 ^ 52 }
 {
     if x < 0 { x.unsigned_abs() } else { 0 }
 }

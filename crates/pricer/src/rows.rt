@@ -8,7 +8,7 @@ ghost use Rattle.tspdef.specs.Instances.{dist};
 ghost use Rattle.pricer.specs.Sizes.{IsWithin};
 ghost use Rattle.pricer.specs.Prices.{at, cost_of, AreSmall};
 
-use crate::numbers::{below_zero, cost, less, small_below_zero, small_less, small_of};
+use crate::numbers::{below_zero, cost, less, small_below_zero, small_cost, small_less, small_of};
 use tspinst::Instance;
 
 /// Adds a number at each of some cities.
@@ -123,14 +123,14 @@ fn wide_pair_loss(instance: &Instance, v: u32, base: i128, price: &[i128], u: u3
 }
 
 /// The same as [`wide_row_loss`] for small prices: a pass that the compiler turns into vector instructions.
-fn small_row_loss(instance: &Instance, v: u32, base: i64, price: &[i64]) -> u64
+pub fn small_row_loss(instance: &Instance, v: u32, base: i64, price: &[i64]) -> u64
     requires city { v < instance.now.n }
     requires few { instance.now.n ≤ 2000 }
     requires price_len { instance.now.n ≤ length price.now }
     requires base { IsWithin (2 ^ 50) base }
     requires price { (c : ℕ) → IsWithin (2 ^ 50) (at price.now c) }
     ensures value { neg_ℤ (pos result) ≡ sum_below (λ u. int_min (pos 0) (cost_of (dist instance.now v u) base (at price.now u) (pos 0))) v }
-    ensures size { result ≤ 2 ^ 51 * v }
+    ensures size { result ≤ 2 ^ 52 * v }
 {
     let mut total: u64 = 0;
     for u in 0..v {
@@ -148,7 +148,43 @@ fn small_pair_loss(instance: &Instance, v: u32, base: i64, price: &[i64], u: u32
     requires base { IsWithin (2 ^ 50) base }
     requires price { IsWithin (2 ^ 50) (at price.now u) }
     ensures value { neg_ℤ (pos result) ≡ int_min (pos 0) (cost_of (dist instance.now v u) base (at price.now u) (pos 0)) }
-    ensures size { result ≤ 2 ^ 51 }
+    ensures size { result ≤ 2 ^ 52 }
 {
     small_below_zero(small_less(instance.d(v, u), base, price[u as usize]))
+}
+
+/// How far the pairs of a city are below 0 by small prices, where it shares small numbers: such a pass too.
+pub fn light_row_loss(instance: &Instance, v: u32, base: i64, price: &[i64], own: &[i64]) -> u64
+    requires city { v < instance.now.n }
+    requires few { instance.now.n ≤ 2000 }
+    requires price_len { instance.now.n ≤ length price.now }
+    requires own_len { instance.now.n ≤ length own.now }
+    requires base { IsWithin (2 ^ 50) base }
+    requires price { (c : ℕ) → IsWithin (2 ^ 50) (at price.now c) }
+    requires own { (c : ℕ) → IsWithin (2 ^ 50) (at own.now c) }
+    ensures value { neg_ℤ (pos result) ≡ sum_below (λ u. int_min (pos 0) (cost_of (dist instance.now v u) base (at price.now u) (at own.now u))) v }
+    ensures size { result ≤ 2 ^ 52 * v }
+{
+    let mut total: u64 = 0;
+    for u in 0..v {
+        total += light_pair_loss(instance, v, base, price, own, u);
+    }
+    total
+}
+
+/// How far a pair with small prices that shares a small number is below 0.
+#[inline]
+fn light_pair_loss(instance: &Instance, v: u32, base: i64, price: &[i64], own: &[i64], u: u32) -> u64
+    requires from { v < instance.now.n }
+    requires to { u < instance.now.n }
+    requires price_len { instance.now.n ≤ length price.now }
+    requires own_len { instance.now.n ≤ length own.now }
+    requires base { IsWithin (2 ^ 50) base }
+    requires price { IsWithin (2 ^ 50) (at price.now u) }
+    requires own { IsWithin (2 ^ 50) (at own.now u) }
+    ensures value { neg_ℤ (pos result) ≡ int_min (pos 0) (cost_of (dist instance.now v u) base (at price.now u) (at own.now u)) }
+    ensures size { result ≤ 2 ^ 52 }
+{
+    let i = u as usize;
+    small_below_zero(small_cost(instance.d(v, u), base, price[i], own[i]))
 }

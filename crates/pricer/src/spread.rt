@@ -19,7 +19,7 @@ use cyc::CitySet;
 
 /// Whether a set counts: always, or where it holds a city.
 #[inline]
-fn is_counted(holder: Option<u32>, set: &CitySet) -> bool
+pub fn is_counted(holder: Option<u32>, set: &CitySet) -> bool
     ensures { result ≡ is_counted holder set.now.cities }
 {
     match holder {
@@ -69,7 +69,7 @@ fn raise_each(numbers: &mut [i128], holder: Option<u32>, sets: &[CitySet], dual:
 
 /// Whether a pair counts: always, or where a city is one of its two.
 #[inline]
-fn is_pair_counted(holder: Option<u32>, pair: (u32, u32)) -> bool
+pub fn is_pair_counted(holder: Option<u32>, pair: (u32, u32)) -> bool
     ensures { result ≡ is_counted holder (pair_set pair) }
 {
     match holder {

@@ -8,5 +8,5 @@ use Rattle.pricer.proofs.rows.small_row_loss.Given as goal
 abbrev pub invariant-loop-u : goal.invariant-loop-u
 invariant-loop-u l = record {
   so_far : neg_ℤ (pos l.total) ≡ sum_below (λ u. int_min (pos 0) (cost_of (dist l.instance l.v u) l.base (at l.price u) (pos 0))) l.u;
-  size : l.total ≤ 2 ^ 51 * l.u;
+  size : l.total ≤ 2 ^ 52 * l.u;
 }
