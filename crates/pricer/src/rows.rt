@@ -174,7 +174,14 @@ pub fn light_row_loss(instance: &Instance, v: u32, base: i64, price: &[i64], own
 
 /// How far a pair with small prices that shares a small number is below 0.
 #[inline]
-fn light_pair_loss(instance: &Instance, v: u32, base: i64, price: &[i64], own: &[i64], u: u32) -> u64
+fn light_pair_loss(
+    instance: &Instance,
+    v: u32,
+    base: i64,
+    price: &[i64],
+    own: &[i64],
+    u: u32,
+) -> u64
     requires from { v < instance.now.n }
     requires to { u < instance.now.n }
     requires price_len { instance.now.n ≤ length price.now }

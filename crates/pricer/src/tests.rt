@@ -3,13 +3,14 @@
 ghost use Rattle.std.specs.Prelude.{◌≡◌, ℕ, ◌^◌, ◌<◌, ◌≤◌, false, true, IsTrue, IfOk};
 ghost use Rattle.tspdef.specs.Paths.{DecidesAll, is_decided, is_present};
 
-use crate::{Closing, Fit, Report, bound, fits, needed, ray, round};
+use crate::{Closing, Fit, Priced, Pricing, Report, bound, fits, needed, ray, round};
 use branchx::{Branch, Cond, Path, decided};
 use cutform::Cut;
 use cyc::CitySet;
 use distx::{Kind, Point};
 use std::alloc::Global;
 use std::process::Abort;
+use std::sync::Arc;
 use std::test::Fail;
 use tspinst::{Instance, from_points};
 
@@ -340,6 +341,83 @@ fn pairs_of_odd_cuts_count_at_both_ends(rt: HostRuntime) -> Result<(), Fail> {
     );
     // two sides of either triangle cross one pair, which costs all that it has; 4 - 0
     assert_eq!(rt; bound_of_odd(&rt, rt.alloc(), &[(0, 3)])?, 4);
+    Ok(())
+}
+
+#[test]
+fn light_and_heavy_duals_of_a_cut_make_the_same_sum(rt: HostRuntime) -> Result<(), Fail> {
+    let alloc = rt.alloc();
+    let instance = two_triangles(alloc)?;
+    let path = Path::new(alloc, 6);
+    // a cut of one set weighs twice its dual, and up to 2^46 it is light
+    for dual in [
+        1u64 << 44,
+        1 << 45,
+        (1 << 45) + 1,
+        1 << 50,
+        (1 << 50) + 1,
+        1 << 62,
+    ] {
+        let mut cuts = Vec::new(alloc);
+        cuts.push((subtour(alloc, 6, &[0, 1, 2])?, dual))?;
+        let closing = closing_with(alloc, cuts, &[])?;
+        // the nine crossing pairs have length 900, each less the dual, of which the cut gives two back
+        assert_eq!(rt;
+            bound_of(&rt, &instance, &path, &closing),
+            (900 << 20) - 7 * i128::from(dual)
+        );
+    }
+    Ok(())
+}
+
+fn priced(
+    rt: &impl Abort,
+    alloc: Global,
+    instance: Instance,
+    path: Path,
+    city: &[i64],
+) -> Result<Pricing, Fail> {
+    assert_eq!(rt; path.n(), instance.n());
+    let closing = Closing::new(
+        Vec::from_slice(alloc, city)?,
+        Vec::new(alloc),
+        Vec::new(alloc),
+    );
+    Ok(Priced::new(Arc::new(alloc, instance)?, path, closing))
+}
+
+#[test]
+fn priced_closings_keep_their_bound(rt: HostRuntime) -> Result<(), Fail> {
+    let alloc = rt.alloc();
+    let mut path = Path::new(alloc, 3);
+    absent(&mut path, 0, 1)?;
+    // 3 and 4 and 5 long; the pair of length 3 is absent
+    let Pricing::Priced(priced) = priced(&rt, alloc, triangle(alloc)?, path, &[0, 7, -2])? else {
+        return Err("a misfit".into());
+    };
+    assert_eq!(rt; priced.bound(), 10);
+    assert_eq!(rt; priced.instance().n(), 3);
+    assert_eq!(rt; priced.path().conditions().len(), 1);
+    assert_eq!(rt; priced.into_closing().city(), [0, 7, -2].as_slice());
+    Ok(())
+}
+
+#[test]
+fn what_does_not_fit_is_not_priced(rt: HostRuntime) -> Result<(), Fail> {
+    let alloc = rt.alloc();
+    for (city, want) in [([0, 0].as_slice(), 1), (&[0, 0, i64::MIN], 2)] {
+        let Pricing::Misfit(least) = priced(
+            &rt,
+            alloc,
+            triangle(alloc)?,
+            Path::new(alloc, 3),
+            city,
+        )?
+        else {
+            return Err("no misfit".into());
+        };
+        assert_eq!(rt; least, want);
+    }
     Ok(())
 }
 

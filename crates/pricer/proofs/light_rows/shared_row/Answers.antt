@@ -45,5 +45,5 @@ returns-clause-value g c =
     let base = read64 (2 ^ 50) (at price v) (omega arith) (c.requires.small v) in
     c.light_row_loss.ensures.value ∙ ap (λ (b : ℤ). sum_below (λ u. int_min (pos 0) (cost_of (dist i v u) b (at price u) (at own u))) v) base
     ∙ row_sum i path c.args.closing.now price own v c.requires.price (λ k.
-        laid_on_none (at own k) _ _ c.args.closing.now.cuts (Some v) k (c.lay_cuts.ensures k) (cleared c.fill.new.self (length c.args.shared.now) k (c.fill.ensures.after (λ y e. e))) c.cuts.ensures
-        ∙ sym (shared_light path c.args.closing.now v k c.requires.light))
+    laid_on_none (at own k) _ _ c.args.closing.now.cuts (Some v) k (c.lay_cuts.ensures k) (cleared c.fill.new.self (length c.args.shared.now) k (c.fill.ensures.after (λ y e. e))) c.cuts.ensures
+    ∙ sym (shared_light path c.args.closing.now v k c.requires.light))
