@@ -1,6 +1,6 @@
 -- A city that no set with a dual holds shares no dual.
-use Rattle.std.proofs.Common.{◌≡◌, ℕ, ◌+◌, ◌*◌, Bool, true, false, cond, ◌||◌, List, [], ◌∷◌, ◌++◌, map, refl, sym, ap, ◌∙◌, arith}
-use Rattle.std.specs.Prelude.{ℤ, pos, ◌+ℤ◌, Some, Option}
+use Rattle.std.proofs.Common.{◌≡◌, ℕ, ◌+◌, ◌*◌, Bool, false, cond, ◌||◌, List, [], ◌∷◌, ◌++◌, map, sym, ap, ◌∙◌, arith}
+use Rattle.std.specs.Prelude.{pos, ◌+ℤ◌, Some, Option}
 use Rattle.std.proofs.lemmas.Int.{ints}
 use Rattle.std.proofs.lemmas.Bool.{cond-false, or_parts}
 use Rattle.cyc.specs.CitySet.{Members}
@@ -12,7 +12,7 @@ use Rattle.cutform.specs.Cut.{cities_of_each, wide_sets, pairs_of}
 use Rattle.cutform.proofs.PartLemmas.{parts_of_sets}
 use Rattle.pricer.specs.Marks.{is_marked, AreMarkedUnless}
 use Rattle.pricer.specs.Prices.{holders, held}
-use Rattle.pricer.proofs.SpreadLemmas.{held-cons, held_last, held_two, held_four}
+use Rattle.pricer.proofs.SpreadLemmas.{held_last, held_two, held_four}
 
 -- nothing is marked, and what is said of a city is true
 pub marks_same : (marks : List Bool) (P : ℕ → Type 0) → ((v : ℕ) → P v) → AreMarkedUnless marks marks P

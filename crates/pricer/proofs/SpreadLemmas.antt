@@ -12,7 +12,7 @@ use Rattle.tspdef.specs.Bounds.{Row, at_least, exactly, cut_rows, condition_row,
 use Rattle.tspdef.proofs.SmallCuts.{cuts_are_small}
 use Rattle.cutform.specs.Cut.{wide_sets, pairs_of}
 use Rattle.cutform.specs.Odds.{ArePairs}
-use Rattle.cutform.proofs.PartLemmas.{parts_of_sets, wide_few, pairs_few}
+use Rattle.cutform.proofs.PartLemmas.{parts_of_sets, wide_few}
 use Rattle.pricer.specs.Sizes.{IsWithin}
 use Rattle.pricer.specs.Prices.{is_counted, holders, held, laid_one, laid}
 use Rattle.pricer.specs.Trails.{HasProperSet}

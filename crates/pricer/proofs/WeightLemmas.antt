@@ -1,17 +1,17 @@
-use Rattle.std.proofs.Common.{◌≡◌, ℕ, ◌+◌, ◌*◌, ◌^◌, ◌≤◌, List, [], ◌∷◌, ◌++◌, length, map, ap, ◌∙◌, refl, subst, sym, arith, Some}
+use Rattle.std.proofs.Common.{◌≡◌, ℕ, ◌+◌, ◌*◌, ◌^◌, ◌≤◌, List, [], ◌∷◌, length, map, ap, arith, Some}
 use Rattle.std.specs.Prelude.{ℤ, pos, ◌+ℤ◌, Option}
 use Rattle.std.proofs.lemmas.Int.{ints}
 use Rattle.std.proofs.lemmas.List.{length-map, length-append}
 use Rattle.std.proofs.Math.Nat.{mul-le-mul_left}
-use Rattle.tspdef.specs.Cuts.{Cut, sets_of, pair_set, IsCut}
+use Rattle.tspdef.specs.Cuts.{Cut, sets_of, pair_set}
 use Rattle.tspdef.specs.Paths.{Condition}
 use Rattle.tspdef.specs.Closings.{Closing}
 use Rattle.tspdef.specs.Bounds.{cut_rows, condition_rows}
 use Rattle.cyc.specs.CitySet.{Members}
 use Rattle.cutform.specs.Cut.{cities_of_each, wide_sets, pairs_of}
-use Rattle.cutform.proofs.PartLemmas.{parts_of_sets, wide_few, pairs_few}
+use Rattle.cutform.proofs.PartLemmas.{parts_of_sets}
 use Rattle.pricer.specs.Sizes.{IsWithin}
-use Rattle.pricer.specs.Prices.{held, laid, shared_by, at}
+use Rattle.pricer.specs.Prices.{held, laid, shared_by}
 use Rattle.pricer.specs.Weights.{weight, IsLight}
 use Rattle.pricer.proofs.SizeLemmas.{within_zero, within_more}
 use Rattle.pricer.proofs.SpreadLemmas.{laid_size, held_cut, number_size}

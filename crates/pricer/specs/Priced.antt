@@ -1,7 +1,7 @@
 -- Closings whose bounds are known.
-use Rattle.std.specs.Prelude.{◌≡◌, ℕ}
+use Rattle.std.specs.Prelude.{◌≡◌}
 use Rattle.tspdef.specs.Instances.{Instance}
-use Rattle.tspdef.specs.Closings.{Closing, Fits, IsMisfit}
+use Rattle.tspdef.specs.Closings.{Closing, Fits}
 use Rattle.branchx.specs.Path.{Conditions}
 
 -- a closing with the path and the instance for which it was priced

@@ -3,7 +3,6 @@ use Rattle.std.specs.Prelude.{◌≡◌}
 use Rattle.tspdef.specs.Instances.{Instance}
 use Rattle.tspdef.specs.Closings.{Closing, Fits, IsMisfit}
 use Rattle.branchx.specs.Path.{Conditions}
-use Rattle.pricer.specs.Priced.{PricedClosing}
 use Rattle.pricer.specs.declared.priced.Pricing.{Pricing}
 use Rattle.pricer.specs.declared.priced.Pricing.TheVariants.{Priced, Misfit}
 

@@ -1,4 +1,4 @@
-use Rattle.std.proofs.Common.{◌∙◌, refl, arith, length}
+use Rattle.std.proofs.Common.{◌∙◌, arith, length}
 use Rattle.tspdef.specs.Paths.{condition_at}
 use Rattle.pricer.proofs.MarkLemmas.{marks_then, cliques_next}
 use Rattle.pricer.proofs.SpreadLemmas.{proper_set_wider}

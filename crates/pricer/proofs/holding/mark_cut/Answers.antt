@@ -1,5 +1,4 @@
-use Rattle.std.proofs.Common.{length, map, ◌∙◌, ap}
-use Rattle.tspdef.specs.Cuts.{pair_set}
+use Rattle.std.proofs.Common.{length}
 use Rattle.pricer.proofs.MarkLemmas.{marks_then, cut_unheld}
 use Rattle.pricer.proofs.SpreadLemmas.{cut_sets, cut_pairs}
 use Rattle.pricer.proofs.holding.mark_cut.Goals as goal

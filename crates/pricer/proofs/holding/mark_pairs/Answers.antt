@@ -1,8 +1,6 @@
-use Rattle.std.proofs.Common.{◌≡◌, ℕ, false, Some, ◌∙◌, refl}
-use Rattle.tspdef.specs.Sets.{has}
+use Rattle.std.proofs.Common.{◌∙◌, refl}
 use Rattle.tspdef.specs.Cuts.{pair_set}
-use Rattle.pricer.specs.Prices.{holders}
-use Rattle.pricer.proofs.MarkLemmas.{marks_same, marks_set, marks_then, pairs_next}
+use Rattle.pricer.proofs.MarkLemmas.{marks_set, marks_then, pairs_next}
 use Rattle.pricer.proofs.holding.mark_pairs.Goals as goal
 
 pub loop-pair-init : goal.loop-pair-init

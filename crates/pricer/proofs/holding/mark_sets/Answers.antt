@@ -1,8 +1,5 @@
-use Rattle.std.proofs.Common.{◌≡◌, ℕ, false, Some, ◌∙◌, refl}
-use Rattle.tspdef.specs.Sets.{has}
-use Rattle.cutform.specs.Cut.{cities_of_each}
-use Rattle.pricer.specs.Prices.{holders}
-use Rattle.pricer.proofs.MarkLemmas.{marks_same, marks_set, marks_then, sets_next}
+use Rattle.std.proofs.Common.{◌∙◌, refl}
+use Rattle.pricer.proofs.MarkLemmas.{marks_set, marks_then, sets_next}
 use Rattle.pricer.proofs.holding.mark_sets.Goals as goal
 
 pub loop-set-init : goal.loop-set-init

@@ -1,4 +1,4 @@
-use Rattle.std.proofs.Common.{◌≡◌, ℕ, length, map, Some}
+use Rattle.std.proofs.Common.{◌≡◌, ℕ, length, Some}
 use Rattle.std.specs.List.{AllByRecursion}
 use Rattle.tspdef.specs.Sets.{IsSet}
 use Rattle.cutform.specs.Cut.{cities_of_each}

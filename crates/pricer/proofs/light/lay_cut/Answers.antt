@@ -1,9 +1,8 @@
-use Rattle.std.proofs.Common.{◌≡◌, ℕ, length, map, pos, ◌+ℤ◌, arith, ap, sym, ◌∙◌, List}
+use Rattle.std.proofs.Common.{◌≡◌, ℕ, length, map, pos, ◌+ℤ◌, arith, ap, ◌∙◌, List}
 use Rattle.std.specs.Prelude.{ℤ}
 use Rattle.std.proofs.lemmas.Int.{ints}
-use Rattle.std.proofs.lemmas.List.{length-map}
 use Rattle.tspdef.specs.Cuts.{pair_set, sets_of}
-use Rattle.cutform.specs.Cut.{cities_of_each, wide_sets, pairs_of}
+use Rattle.cutform.specs.Cut.{wide_sets}
 use Rattle.pricer.specs.Prices.{at, laid}
 use Rattle.pricer.proofs.SizeLemmas.{within_more}
 use Rattle.pricer.proofs.SpreadLemmas.{cut_sets, cut_pairs, held_parts}

@@ -1,4 +1,4 @@
-use Rattle.std.proofs.Common.{◌≡◌, ℕ, length, map, pos, ◌+ℤ◌, arith, List, ◌∷◌}
+use Rattle.std.proofs.Common.{◌≡◌, ℕ, map, pos, ◌+ℤ◌, arith, List, ◌∷◌}
 use Rattle.std.specs.Prelude.{ℤ}
 use Rattle.std.proofs.lemmas.Int.{ints}
 use Rattle.std.proofs.lemmas.List.{length-map}

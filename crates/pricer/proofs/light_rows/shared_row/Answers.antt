@@ -1,14 +1,12 @@
-use Rattle.std.proofs.Common.{◌≡◌, ℕ, ◌≤◌, ◌^◌, List, length, arith, refl, ap, sym, ◌∙◌, pos}
+use Rattle.std.proofs.Common.{◌≡◌, ℕ, ◌^◌, List, length, arith, ap, sym, ◌∙◌, pos}
 use Rattle.std.specs.Prelude.{ℤ, replicate, ◌+ℤ◌}
 use Rattle.std.proofs.lemmas.Int.{ints}
-use Rattle.std.proofs.Math.Nat.{mul-le-mul_left}
 use Rattle.std.specs.Int.{int_min}
 use Rattle.std.specs.Prelude.{Option, Some}
 use Rattle.tspdef.specs.Instances.{dist}
 use Rattle.tspdef.specs.Cuts.{Cut}
 use Rattle.tspdef.specs.Sums.{sum_below}
 use Rattle.tspdef.specs.Bounds.{cut_rows}
-use Rattle.pricer.specs.Sizes.{IsWithin}
 use Rattle.pricer.specs.Prices.{at, held, shared_by, cost_of}
 use Rattle.pricer.proofs.SizeLemmas.{within_zero, within_more, read64}
 use Rattle.pricer.proofs.ListLemmas.{no_number}
