@@ -107,7 +107,7 @@ flip_case false false true x = refl
 flip_case false false false x = refl
 
 -- a set and all other cities are crossed by the same
-flipped : (es : List Entry) (p : ℕ → Bool) (c : Bool) → crossing es (λ k. cond (p k) c (not c)) ≡ crossing es p
+pub flipped : (es : List Entry) (p : ℕ → Bool) (c : Bool) → crossing es (λ k. cond (p k) c (not c)) ≡ crossing es p
 flipped [] p c = refl
 flipped (e ∷ es) p c =
     let ih = flipped es p c in
