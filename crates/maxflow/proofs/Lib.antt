@@ -4,3 +4,4 @@ pub mod CrossingLemmas
 pub mod SideLemmas
 pub mod FlowLemmas
 pub mod ShrinkLemmas
+pub mod NetworkLemmas

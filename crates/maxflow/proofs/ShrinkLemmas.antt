@@ -9,7 +9,8 @@ use Rattle.cyc.specs.declared.frac.Entry.{Entry}
 use Rattle.cyc.specs.Frac.{IsEntry}
 use Rattle.maxflow.specs.declared.shrinking.Shrunk.{Shrunk}
 use Rattle.maxflow.specs.Crossings.{crossing_at, crossing, between_at, between}
-use Rattle.maxflow.specs.Shrinking.{AreGroups, in_group, IsFirst, AreTied, IsSome, IsMatched, IsCovered, IsWeighed, IsShrinking, merged_to}
+use Rattle.maxflow.specs.Shrinking.{AreGroups, in_group, IsFirst, AreTied, IsSome, IsMatched, IsCovered, IsWeighed, IsMerge, IsNoHeavier, WasGroup, IsShrinking, merged_to}
+use Rattle.maxflow.specs.Merging.{AreDegrees, AreUntiedBelow, IsGroupKept, IsSetKept, IsLighterOf}
 use Rattle.maxflow.proofs.SideLemmas.{proper_from}
 
 -- ---- sums over entries
@@ -106,7 +107,7 @@ flip_case false false true x = refl
 flip_case false false false x = refl
 
 -- a set and all other cities are crossed by the same
-flipped : (es : List Entry) (p : ℕ → Bool) (c : Bool) → crossing es (λ k. cond (p k) c (not c)) ≡ crossing es p
+pub flipped : (es : List Entry) (p : ℕ → Bool) (c : Bool) → crossing es (λ k. cond (p k) c (not c)) ≡ crossing es p
 flipped [] p c = refl
 flipped (e ∷ es) p c =
     let ih = flipped es p c in
@@ -131,6 +132,48 @@ pub between_less : (es : List Entry) (groups : List ℕ) (a b : ℕ) → (b ≡ 
 between_less es groups a b ne = sum_by-le-sum_by (between_at (in_group groups a) (in_group groups b)) (crossing_at (in_group groups a)) es
     (λ e. among_case (in_group groups a e.u) (in_group groups a e.v) (in_group groups b e.u) (in_group groups b e.v) e.x
     (other_group groups a b e.u ne) (other_group groups a b e.v ne))
+
+among_turned : (au av bu bv : Bool) (x : ℕ) → (au ≡ true → bu ≡ false) → (av ≡ true → bv ≡ false) → among au av bu bv x ≡ among bu bv au av x
+among_turned true true bu bv x h k = let y = h refl in let z = k refl in rw (y, z) refl
+among_turned true false bu true x h k = let y = h refl in rw y refl
+among_turned true false bu false x h k = let y = h refl in rw y refl
+among_turned false true true bv x h k = refl
+among_turned false true false bv x h k = let z = k refl in rw z refl
+among_turned false false true bv x h k = refl
+among_turned false false false true x h k = refl
+among_turned false false false false x h k = refl
+
+-- what is between two groups, from either side
+pub between_turned : (es : List Entry) (groups : List ℕ) (a b : ℕ) → (b ≡ a → ⊥) → between es (in_group groups a) (in_group groups b) ≡ between es (in_group groups b) (in_group groups a)
+between_turned [] groups a b ne = refl
+between_turned (e ∷ es) groups a b ne =
+    let ih = between_turned es groups a b ne in
+    let one : between_at (in_group groups a) (in_group groups b) e ≡ between_at (in_group groups b) (in_group groups a) e =
+    among_turned (in_group groups a e.u) (in_group groups a e.v) (in_group groups b e.u) (in_group groups b e.v) e.x (other_group groups a b e.u ne) (other_group groups a b e.v ne) in
+    let l : between (e ∷ es) (in_group groups a) (in_group groups b) ≡ between_at (in_group groups a) (in_group groups b) e + between es (in_group groups a) (in_group groups b) = sum_by-cons (between_at (in_group groups a) (in_group groups b)) e es in
+    let r : between (e ∷ es) (in_group groups b) (in_group groups a) ≡ between_at (in_group groups b) (in_group groups a) e + between es (in_group groups b) (in_group groups a) = sum_by-cons (between_at (in_group groups b) (in_group groups a)) e es in
+    omega (arith, ih, one, l, r)
+
+pub tied_turned : (es : List Entry) (groups : List ℕ) (a b : ℕ) → (b ≡ a → ⊥) → AreTied es groups a b → AreTied es groups b a
+tied_turned es groups a b ne t =
+    let e = between_turned es groups a b ne in
+    let one = t.one in
+    let other = t.other in
+    record { one = omega (arith, e, other); other = omega (arith, e, one) }
+
+-- what is between two sets is told by the cities below n
+between_within : (n : ℕ) (es : List Entry) (p q s t : ℕ → Bool) → AllByRecursion (IsEntry n) es → ((k : ℕ) → k < n → p k ≡ q k) → ((k : ℕ) → k < n → s k ≡ t k) → between es p s ≡ between es q t
+between_within n [] p q s t a e f = refl
+between_within n (w ∷ es) p q s t a e f =
+    let ih = between_within n es p q s t a.1 e f in
+    let one : between_at p s w ≡ between_at q t w =
+    ap (λ i. cond i (cond (s w.v) w.x 0) (cond (p w.v) (cond (s w.u) w.x 0) 0)) (e w.u a.0.u_below)
+    ∙ ap (λ i. cond (q w.u) (cond i w.x 0) (cond (p w.v) (cond (s w.u) w.x 0) 0)) (f w.v a.0.v_below)
+    ∙ ap (λ i. cond (q w.u) (cond (t w.v) w.x 0) (cond i (cond (s w.u) w.x 0) 0)) (e w.v a.0.v_below)
+    ∙ ap (λ i. cond (q w.u) (cond (t w.v) w.x 0) (cond (q w.v) (cond i w.x 0) 0)) (f w.u a.0.u_below) in
+    let l : between (w ∷ es) p s ≡ between_at p s w + between es p s = sum_by-cons (between_at p s) w es in
+    let r : between (w ∷ es) q t ≡ between_at q t w + between es q t = sum_by-cons (between_at q t) w es in
+    omega (arith, ih, one, l, r)
 
 -- a sum modulo 2^64 that is small
 pub exact : (value sum : ℕ) → value ≡ sum % 2 ^ 64 → sum < 2 ^ 53 → value ≡ sum
@@ -343,15 +386,114 @@ light_merged n es old now a b best less all m l light new c d fc fd ne = ⊎_eli
     omega (arith, l, h, e))
     (cases_eq c a)
 
+-- ---- sets of groups
+
+-- a group that lacks a city is proper
+pub proper_group : (n : ℕ) (groups : List ℕ) (a k : ℕ) (s : List ℕ) → IsFirst n groups a → k < n → in_group groups a k ≡ false → IsSet n s
+    → ((j : ℕ) → j < n → has s j ≡ in_group groups a j) → IsProper n s
+proper_group n groups a k s f h lacks set members =
+    proper_from n a k s set (members a f.below ∙ eq-eqb (get_or groups a 0) a f.own) h (members k h ∙ lacks)
+
+-- a proper group is crossed by its weight
+pub weighed_group : (n : ℕ) (es : List Entry) (groups : List ℕ) (a weight : ℕ) (s : Members) → AllByRecursion (IsEntry n) es → s.n ≡ n → ((j : ℕ) → j < n → has s.cities j ≡ in_group groups a j)
+    → IsProper n s.cities → weight ≡ crossing es (in_group groups a) → IsWeighed n es weight s
+weighed_group n es groups a weight s all cities members proper w = record {
+  cities = cities;
+  proper = proper;
+  crossed = crossing_within n es (has s.cities) (in_group groups a) all members ∙ sym w;
+}
+
+-- two groups that were not merged are tied as they were
+tied_before : (n : ℕ) (es : List Entry) (old now : List ℕ) (a b c d : ℕ) → AllByRecursion (IsEntry n) es → AreMerged n old now a b → (c ≡ a → ⊥) → (c ≡ b → ⊥) → (d ≡ a → ⊥) → (d ≡ b → ⊥)
+    → AreTied es now c d → AreTied es old c d
+tied_before n es old now a b c d all m ca cb da db t =
+    let one = t.one in
+    let other = t.other in
+    let x = crossing_within n es (in_group now c) (in_group old c) all (same_group n old now a b c m ca cb) in
+    let y = crossing_within n es (in_group now d) (in_group old d) all (same_group n old now a b d m da db) in
+    let z = between_within n es (in_group now c) (in_group old c) (in_group now d) (in_group old d) all (same_group n old now a b c m ca cb) (same_group n old now a b d m da db) in
+    record { one = omega (arith, one, x, z); other = omega (arith, other, y, z) }
+
+-- groups that were not tied stay so, but for the merged one
+pub untied_merged : (n : ℕ) (es : List Entry) (old now : List ℕ) (a b city but : ℕ) → AllByRecursion (IsEntry n) es → AreMerged n old now a b → (but ≡ a) ⊎ (but ≡ b)
+    → AreUntiedBelow n es old city but → AreUntiedBelow n es now city a
+untied_merged n es old now a b city but all m either untied = λ c d fc fd before below nc nd tied.
+    let s = still_first n old now a b c m fc nc in
+    let t = still_first n old now a b d m fd nd in
+    let mc : c ≡ but → ⊥ = λ e. ⊎_elim (λ (r : but ≡ a). nc (e ∙ r)) (λ (r : but ≡ b). s.0 (e ∙ r)) either in
+    let md : d ≡ but → ⊥ = λ e. ⊎_elim (λ (r : but ≡ a). nd (e ∙ r)) (λ (r : but ≡ b). t.0 (e ∙ r)) either in
+    untied c d s.1 t.1 before below mc md (tied_before n es old now a b c d all m nc s.0 nd t.0 tied)
+
+-- the degree of the merged group is new, those of the others stay
+pub degrees_merged : (n : ℕ) (es : List Entry) (old now : List ℕ) (a b : ℕ) (before after : List ℕ) → AllByRecursion (IsEntry n) es → AreMerged n old now a b → AreDegrees n es old before
+    → get_or after a 0 ≡ crossing es (in_group now a) → ((k : ℕ) → (k ≡ a → ⊥) → get_or after k 0 ≡ get_or before k 0) → AreDegrees n es now after
+degrees_merged n es old now a b before after all m degrees here others = λ c f. ⊎_elim
+    (λ (e : c ≡ a). subst (λ j. get_or after j 0 ≡ crossing es (in_group now j)) (sym e) here)
+    (λ (ne : c ≡ a → ⊥).
+    let s = still_first n old now a b c m f ne in
+    others c ne ∙ degrees c s.1 ∙ sym (crossing_within n es (in_group now c) (in_group old c) all (same_group n old now a b c m ne s.0)))
+    (cases_eq c a)
+
+-- what is no heavier than each of the old groups, and the new one, is no heavier than each that lacks a city
+no_heavier_merged : (n : ℕ) (es : List Entry) (old now : List ℕ) (a b best less : ℕ) → AllByRecursion (IsEntry n) es → AreMerged n old now a b → less ≤ best → IsNoHeavier n es best old
+    → ((k : ℕ) → k < n → in_group now a k ≡ false → less ≤ crossing es (in_group now a)) → IsNoHeavier n es less now
+no_heavier_merged n es old now a b best less all m l heavy new = λ c k f h lacks. ⊎_elim
+    (λ (e : c ≡ a). subst (λ j. less ≤ crossing es (in_group now j)) (sym e) (new k h (ap (λ j. in_group now j k) (sym e) ∙ lacks)))
+    (λ (ne : c ≡ a → ⊥).
+    let s = still_first n old now a b c m f ne in
+    let z = heavy c k s.1 h (sym (same_group n old now a b c m ne s.0 k h) ∙ lacks) in
+    let e = crossing_within n es (in_group now c) (in_group old c) all (same_group n old now a b c m ne s.0) in
+    omega (arith, l, z, e))
+    (cases_eq c a)
+
+-- what is less is no heavier than each group of these times
+still_no_heavier : (n : ℕ) (es : List Entry) (best less : ℕ) (times : List (List ℕ)) → less ≤ best → AllByRecursion (IsNoHeavier n es best) times → AllByRecursion (IsNoHeavier n es less) times
+still_no_heavier n es best less [] l all = tt
+still_no_heavier n es best less (groups ∷ times) l all = ((λ a k f h lacks. at_most _ _ _ l (all.0 a k f h lacks)), still_no_heavier n es best less times l all.1)
+
+pub merge_of : (n : ℕ) (es : List Entry) (old now : List ℕ) (a b : ℕ) → AreMerged n old now a b → AreTied es old a b → IsMerge n es old now
+merge_of n es old now a b m tied = record { one = a; other = b; first = m.first; second = m.second; before = m.before; tied = tied; size = m.size; each = m.each }
+
+-- the lighter of both is a proper set that is crossed by its weight
+weighed_lighter : (n : ℕ) (es : List Entry) (old now : Shrunk) (a weight : ℕ) → AllByRecursion (IsEntry n) es → IsWeighed n es old.best old.set → weight ≡ crossing es (in_group now.groups.items a)
+    → IsGroupKept n now.groups.items a weight now.best now.set ⊎ IsSetKept old.best now.best old.set now.set → IsWeighed n es now.best now.set
+weighed_lighter n es old now a weight all best w = ⊎_elim
+    (λ (g : IsGroupKept n now.groups.items a weight now.best now.set). weighed_group n es now.groups.items a now.best now.set all g.cities g.members g.proper (g.value ∙ w))
+    (λ (g : IsSetKept old.best now.best old.set now.set).
+    subst (λ v. IsWeighed n es v now.set) (sym g.value) (subst (λ (v : Members). IsWeighed n es old.best v) (sym g.same) best))
+
+-- the lighter of both was a group at some time
+was_lighter : (n : ℕ) (old now : Shrunk) (a weight : ℕ) (times : List (List ℕ)) → IsFirst n now.groups.items a → WasGroup n old.set times
+    → IsGroupKept n now.groups.items a weight now.best now.set ⊎ IsSetKept old.best now.best old.set now.set → WasGroup n now.set (now.groups.items ∷ times)
+was_lighter n old now a weight times first was = ⊎_elim
+    (λ (g : IsGroupKept n now.groups.items a weight now.best now.set). inl (record { least = a; first = first; members = g.members }))
+    (λ (g : IsSetKept old.best now.best old.set now.set). inr (subst (λ (v : Members). WasGroup n v times) (sym g.same) was))
+
+pub first_merged : (n : ℕ) (old now : List ℕ) (a b : ℕ) → AreMerged n old now a b → IsFirst n now a
+first_merged n old now a b m =
+    let s = m.before in
+    let o = m.first.own in
+    record { below = m.first.below; own = m.each a m.first.below ∙ to_off a b (get_or old a 0) (λ r. omega (arith, r, o, s)) ∙ o }
+
 -- the step as a whole
-pub shrinks_on : (n : ℕ) (es : List Entry) (old now : Shrunk) (a b : ℕ) → AllByRecursion (IsEntry n) es → IsShrinking n es old → AreMerged n old.groups.items now.groups.items a b → AreTied es old.groups.items a b
-    → IsWeighed n es now.best now.set → now.best ≤ old.best
-    → ((k : ℕ) → k < n → in_group now.groups.items a k ≡ false → now.best ≤ crossing es (in_group now.groups.items a)) → IsShrinking n es now
-shrinks_on n es old now a b all s m tied best l new =
+pub shrinks_on : (n : ℕ) (es : List Entry) (old now : Shrunk) (a b weight : ℕ) → AllByRecursion (IsEntry n) es → IsShrinking n es old → AreMerged n old.groups.items now.groups.items a b → AreTied es old.groups.items a b
+    → weight ≡ crossing es (in_group now.groups.items a) → IsLighterOf n now.groups.items a weight old.best old.set now.best now.set → IsShrinking n es now
+shrinks_on n es old now a b weight all s m tied w lighter =
     let before = m.before in
+    let l = lighter.no_more in
+    let new : (k : ℕ) → k < n → in_group now.groups.items a k ≡ false → now.best ≤ crossing es (in_group now.groups.items a) = λ k h lacks. (let z = lighter.light k h lacks in omega (arith, z, w)) in
     record {
       groups = merged_groups n old.groups.items now.groups.items a b m;
-      best = best;
+      best = weighed_lighter n es old now a weight all s.best w lighter.kept;
+      run = record {
+        earlier = old.groups.items ∷ s.run.earlier;
+        reached = (merge_of n es old.groups.items now.groups.items a b m tied, s.run.reached);
+        least = (
+          no_heavier_merged n es old.groups.items now.groups.items a b old.best now.best all m l s.run.least.0 new,
+          still_no_heavier n es old.best now.best (old.groups.items ∷ s.run.earlier) l s.run.least,
+        );
+        was = was_lighter n old now a weight (old.groups.items ∷ s.run.earlier) (first_merged n old.groups.items now.groups.items a b m) s.run.was lighter.kept;
+      };
       cities = λ k h. at_most _ _ _ l (s.cities k h);
       light = light_merged n es old.groups.items now.groups.items a b old.best now.best all m l s.light new;
       covered = covers_merged n es old.groups.items now.groups.items a b old.best now.best all m tied
@@ -404,23 +546,6 @@ merged_less n old now a b m =
     (cases_eq (get_or old k 0) b))
     (omega (arith, below, lo)) (omega (arith, at, own, s))
 
--- ---- sets of groups
-
--- a group that lacks a city is proper
-pub proper_group : (n : ℕ) (groups : List ℕ) (a k : ℕ) (s : List ℕ) → IsFirst n groups a → k < n → in_group groups a k ≡ false → IsSet n s
-    → ((j : ℕ) → j < n → has s j ≡ in_group groups a j) → IsProper n s
-proper_group n groups a k s f h lacks set members =
-    proper_from n a k s set (members a f.below ∙ eq-eqb (get_or groups a 0) a f.own) h (members k h ∙ lacks)
-
--- a proper group is crossed by its weight
-pub weighed_group : (n : ℕ) (es : List Entry) (groups : List ℕ) (a weight : ℕ) (s : Members) → AllByRecursion (IsEntry n) es → s.n ≡ n → ((j : ℕ) → j < n → has s.cities j ≡ in_group groups a j)
-    → IsProper n s.cities → weight ≡ crossing es (in_group groups a) → IsWeighed n es weight s
-weighed_group n es groups a weight s all cities members proper w = record {
-  cities = cities;
-  proper = proper;
-  crossed = crossing_within n es (has s.cities) (in_group groups a) all members ∙ sym w;
-}
-
 pub groups_alone : (n : ℕ) (groups : List ℕ) → length groups ≡ n → ((k : ℕ) → k < n → get_or groups k 0 ≡ k) → AreGroups n groups
 groups_alone n groups size alone = record {
   all = size;
@@ -428,33 +553,60 @@ groups_alone n groups size alone = record {
   own = λ k h. let e = alone k h in subst (λ j. get_or groups j 0 ≡ j) (sym e) e;
 }
 
--- the first city alone, where all are
-pub first_alone : (n : ℕ) (es : List Entry) (groups one two : List ℕ) (weight : ℕ) (s : Members) → 3 ≤ n → AllByRecursion (IsEntry n) es → ((k : ℕ) → k < n → get_or groups k 0 ≡ k)
-    → one ≡ groups → two ≡ groups → weight ≡ crossing es (in_group one 0) → s.n ≡ n → IsSet n s.cities → ((j : ℕ) → j < n → has s.cities j ≡ in_group two 0 j) → IsWeighed n es weight s
-first_alone n es groups one two weight s many all alone e f w cities set members =
-    let zero_own = alone 0 (omega (arith, many)) in
-    let one_own = alone 1 (omega (arith, many)) in
-    let m : (j : ℕ) → j < n → has s.cities j ≡ in_group groups 0 j = subst (λ v. (j : ℕ) → j < n → has s.cities j ≡ in_group v 0 j) f members in
-    let v : weight ≡ crossing es (in_group groups 0) = subst (λ v. weight ≡ crossing es (in_group v 0)) e w in
-    weighed_group n es groups 0 weight s all cities m
-    (proper_group n groups 0 1 s.cities (record { below = omega (arith, many); own = zero_own }) (omega (arith, many)) (ne_eqb (get_or groups 1 0) 0 (λ q. omega (arith, one_own, q))) set m) v
+-- a city but this one
+other_city : (n city : ℕ) → 3 ≤ n → (k : ℕ) × ((k < n) × (k ≡ city → ⊥))
+other_city n zero many = (1, (omega (arith, many), λ e. omega (arith, e)))
+other_city n (suc city) many = (0, (omega (arith, many), λ e. omega (arith, e)))
 
--- one more city alone
-pub light_alone : (n : ℕ) (es : List Entry) (groups given : List ℕ) (a best less : ℕ) → 1 ≤ a → a < n → ((k : ℕ) → k < n → get_or groups k 0 ≡ k) → given ≡ groups → less ≤ best
-    → ((k : ℕ) → k < a → best ≤ crossing es (in_group groups k)) → ((k : ℕ) → k < n → in_group given a k ≡ false → less ≤ crossing es (in_group given a))
-    → (k : ℕ) → k < a + 1 → less ≤ crossing es (in_group groups k)
-light_alone n es groups given a best less some h alone e l light new k below = ⊎_elim
-    (λ (q : k ≡ a).
-    let zero_own = alone 0 (omega (arith, h)) in
-    let fresh : (j : ℕ) → j < n → in_group groups a j ≡ false → less ≤ crossing es (in_group groups a) =
-    subst (λ v. (j : ℕ) → j < n → in_group v a j ≡ false → less ≤ crossing es (in_group v a)) e new in
-    subst (λ j. less ≤ crossing es (in_group groups j)) (sym q) (fresh 0 (omega (arith, h)) (ne_eqb (get_or groups 0 0) a (λ r. omega (arith, r, zero_own, some)))))
-    (λ (q : k ≡ a → ⊥). let z = light k (omega (arith, below, q)) in omega (arith, l, z))
-    (cases_eq k a)
+-- each group is one city: the lightest of them is a least group
+pub shrinks_alone : (n : ℕ) (es : List Entry) (s : Shrunk) (degrees : List ℕ) (city : ℕ) → 3 ≤ n → AllByRecursion (IsEntry n) es → length s.groups.items ≡ n
+    → ((k : ℕ) → k < n → get_or s.groups.items k 0 ≡ k) → ((k : ℕ) → k < n → get_or degrees k 0 ≡ crossing es (λ j. j == k)) → city < n
+    → ((k : ℕ) → k < n → get_or degrees city 0 ≤ get_or degrees k 0) → s.best ≡ get_or degrees city 0 → s.set.n ≡ n → IsSet n s.set.cities
+    → ((k : ℕ) → k < n → has s.set.cities k ≡ in_group s.groups.items city k) → IsShrinking n es s
+shrinks_alone n es s degrees city many all size alone values inside least best cities set members =
+    let groups = s.groups.items in
+    let same : (k : ℕ) → crossing es (in_group groups k) ≡ crossing es (λ j. j == k) = λ k. crossing_within n es (in_group groups k) (λ j. j == k) all (λ j h. ap (λ i. i == k) (alone j h)) in
+    let first : IsFirst n groups city = record { below = inside; own = alone city inside } in
+    let light : (k : ℕ) → k < n → s.best ≤ crossing es (λ j. j == k) = λ k h. (let l = least k h in let e = values k h in omega (arith, l, e, best)) in
+    let heavy : (k : ℕ) → k < n → s.best ≤ crossing es (in_group groups k) = λ k h. (let l = light k h in let e = same k in omega (arith, l, e)) in
+    let o = other_city n city many in
+    let lacks : in_group groups city o.0 ≡ false = ne_eqb (get_or groups o.0 0) city (λ r. o.1.1 (sym (alone o.0 o.1.0) ∙ r)) in
+    record {
+      groups = groups_alone n groups size alone;
+      best = weighed_group n es groups city s.best s.set all cities members (proper_group n groups city o.0 s.set.cities first o.1.0 lacks set members) (best ∙ values city inside ∙ sym (same city));
+      run = record {
+        earlier = [];
+        reached = alone;
+        least = ((λ a k f h lacks. heavy a f.below), tt);
+        was = inl (record { least = city; first = first; members = members });
+      };
+      cities = light;
+      light = λ a b fa fb ne. heavy a fa.below;
+      covered = covers_alone n es groups s.best alone;
+    }
 
--- each city is the only one of its group
-pub cities_alone : (n : ℕ) (es : List Entry) (groups : List ℕ) (best k : ℕ) → AllByRecursion (IsEntry n) es → ((j : ℕ) → j < n → get_or groups j 0 ≡ j) → best ≤ crossing es (in_group groups k)
-    → best ≤ crossing es (λ j. j == k)
-cities_alone n es groups best k all alone l =
-    let e = crossing_within n es (in_group groups k) (λ j. j == k) all (λ j h. ap (λ i. i == k) (alone j h)) in
-    omega (arith, e, l)
+-- their degrees
+pub degrees_alone : (n : ℕ) (es : List Entry) (groups degrees : List ℕ) → AllByRecursion (IsEntry n) es → ((k : ℕ) → k < n → get_or groups k 0 ≡ k)
+    → ((k : ℕ) → k < n → get_or degrees k 0 ≡ crossing es (λ j. j == k)) → AreDegrees n es groups degrees
+degrees_alone n es groups degrees all alone values = λ a f.
+    values a f.below ∙ sym (crossing_within n es (in_group groups a) (λ j. j == a) all (λ j h. ap (λ i. i == a) (alone j h)))
+
+-- ---- one pass over the cities
+
+-- one city more, where its group is left out
+pub untied_but : (n : ℕ) (es : List Entry) (groups : List ℕ) (a : ℕ) → AreUntiedBelow n es groups a n → AreUntiedBelow n es groups (a + 1) a
+untied_but n es groups a untied = λ c d fc fd before below nc nd tied.
+    let ic = fc.below in
+    let id = fd.below in
+    untied c d fc fd before (omega (arith, below, nc)) (λ e. omega (arith, e, ic)) (λ e. omega (arith, e, id)) tied
+
+-- the group that was left out is tied to no other
+pub untied_with : (n : ℕ) (es : List Entry) (groups : List ℕ) (city at : ℕ) → AreUntiedBelow n es groups city at → ((b : ℕ) → IsFirst n groups b → (b ≡ at → ⊥) → AreTied es groups at b → ⊥)
+    → AreUntiedBelow n es groups city n
+untied_with n es groups city at untied none = λ c d fc fd before below nc nd tied. ⊎_elim
+    (λ (e : c ≡ at). none d fd (λ r. omega (arith, r, e, before)) (subst (λ j. AreTied es groups j d) e tied))
+    (λ (mc : c ≡ at → ⊥). ⊎_elim
+    (λ (e : d ≡ at). none c fc mc (subst (λ j. AreTied es groups j c) e (tied_turned es groups c d (λ r. omega (arith, r, before)) tied)))
+    (λ (md : d ≡ at → ⊥). untied c d fc fd before below mc md tied)
+    (cases_eq d at))
+    (cases_eq c at)

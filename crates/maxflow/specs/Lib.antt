@@ -4,3 +4,4 @@ pub mod Edges
 pub mod Searches
 pub mod NetworkInside
 pub mod Shrinking
+pub mod Merging

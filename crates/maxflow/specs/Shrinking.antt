@@ -1,5 +1,6 @@
 -- Shrinking: groups of cities that are merged and no least set is lost (Padberg and Rinaldi 1990).
-use Rattle.std.specs.Prelude.{◌≡◌, ◌≢◌, ℕ, ◌*◌, ◌<◌, ◌≤◌, ◌⊎◌, Bool, true, false, cond, ◌==◌, List, length, slice_index}
+use Rattle.std.specs.Prelude.{◌≡◌, ◌≢◌, ℕ, ◌*◌, ◌<◌, ◌≤◌, ◌⊎◌, Bool, true, false, cond, ◌==◌, List, [], ◌∷◌, length, slice_index}
+use Rattle.std.specs.List.{AllByRecursion}
 use Rattle.tspdef.specs.Sets.{has, IsProper}
 use Rattle.cyc.specs.declared.frac.Entry.{Entry}
 use Rattle.cyc.specs.CitySet.{Members}
@@ -57,10 +58,53 @@ pub record IsWeighed (n : ℕ) (es : List Entry) (weight : ℕ) (s : Members) : 
   pub proper : IsProper n s.cities
   pub crossed : crossing es (has s.cities) ≡ weight
 
+-- the least city of a group, once b's group is merged into a's
+abbrev pub merged_to : ℕ → ℕ → ℕ → ℕ
+merged_to a b k = cond (k == b) a k
+
+-- two tied groups of the old are one group of the new, which has the least city of both
+pub record IsMerge (n : ℕ) (es : List Entry) (old now : List ℕ) : Type 0 where
+  pub one : ℕ
+  pub other : ℕ
+  pub first : IsFirst n old one
+  pub second : IsFirst n old other
+  pub before : one < other
+  pub tied : AreTied es old one other
+  pub size : length now ≡ n
+  pub each : (k : ℕ) → k < n → slice_index now k ≡ merged_to one other (slice_index old k)
+
+-- the groups were reached from single cities by merges of two tied groups, through these, the latest before the others
+abbrev pub AreReached : ℕ → List Entry → List ℕ → List (List ℕ) → Type 0
+AreReached n es groups [] = (k : ℕ) → k < n → slice_index groups k ≡ k
+AreReached n es groups (old ∷ older) = IsMerge n es old groups × AreReached n es old older
+
+-- no group that lacks a city is crossed by less
+abbrev pub IsNoHeavier : ℕ → List Entry → ℕ → List ℕ → Type 0
+IsNoHeavier n es weight groups = (a k : ℕ) → IsFirst n groups a → k < n → in_group groups a k ≡ false → weight ≤ crossing es (in_group groups a)
+
+-- the set is one of the groups
+pub record IsGroup (n : ℕ) (s : Members) (groups : List ℕ) : Type 0 where
+  pub least : ℕ
+  pub first : IsFirst n groups least
+  pub members : (k : ℕ) → k < n → has s.cities k ≡ in_group groups least k
+
+-- the set is a group at one of these times
+abbrev pub WasGroup : ℕ → Members → List (List ℕ) → Type 0
+WasGroup n s [] = ⊥
+WasGroup n s (groups ∷ older) = IsGroup n s groups ⊎ WasGroup n s older
+
+-- How the groups came about, and the least of all that were a group at some time and lack a city: the set is one of them.
+pub record IsLeastOfRun (n : ℕ) (es : List Entry) (s : Shrunk) : Type 0 where
+  pub earlier : List (List ℕ)
+  pub reached : AreReached n es s.groups.items earlier
+  pub least : AllByRecursion (IsNoHeavier n es s.best) (s.groups.items ∷ earlier)
+  pub was : WasGroup n s.set (s.groups.items ∷ earlier)
+
 -- Groups on the way: the set is crossed by no more than each city and each of two groups or more, and no proper set was lost.
 pub record IsShrinking (n : ℕ) (es : List Entry) (s : Shrunk) : Type 0 where
   pub groups : AreGroups n s.groups.items
   pub best : IsWeighed n es s.best s.set
+  pub run : IsLeastOfRun n es s
   pub cities : (k : ℕ) → k < n → s.best ≤ crossing es (λ j. j == k)
   pub light : (a b : ℕ) → IsFirst n s.groups.items a → IsFirst n s.groups.items b → a ≢ b → s.best ≤ crossing es (in_group s.groups.items a)
   pub covered : IsCovered n es s.groups.items s.best
@@ -69,7 +113,3 @@ pub record IsShrinking (n : ℕ) (es : List Entry) (s : Shrunk) : Type 0 where
 pub record IsShrunk (x : Values) (s : Shrunk) : Type 0 where
   pub shrunk : IsShrinking x.n x.entries s
   pub untied : AreUntied x.n x.entries s.groups.items
-
--- the least city of a group, once b's group is merged into a's
-abbrev pub merged_to : ℕ → ℕ → ℕ → ℕ
-merged_to a b k = cond (k == b) a k

@@ -1,9 +1,10 @@
 //! Groups of cities, each named by its least city.
-ghost use Rattle.std.specs.Prelude.{◌≡◌, ◌≢◌, ◌<◌, ◌≤◌, ◌%◌, ◌^◌, ℕ, Bool, false, length, slice_index, IfOk, MatchOption};
+ghost use Rattle.std.specs.Prelude.{◌≡◌, ◌≢◌, ◌==◌, ◌<◌, ◌≤◌, ◌%◌, ◌^◌, ℕ, Bool, false, length, slice_index, IfOk, MatchOption};
 ghost use Rattle.tspdef.specs.Sets.{has, IsSet};
 ghost use Rattle.cyc.specs.Frac.{AreEntries};
 ghost use Rattle.maxflow.specs.Crossings.{crossing, between};
-ghost use Rattle.maxflow.specs.Shrinking.{in_group, IsFirst, AreTied, AreUntied, merged_to};
+ghost use Rattle.maxflow.specs.Shrinking.{in_group, IsFirst, AreTied, merged_to};
+ghost use Rattle.maxflow.specs.Merging.{AreDegrees, IsTie};
 
 use crate::sums;
 use cyc::{CitySet, CitySetError, Entry};
@@ -36,7 +37,7 @@ pub fn merged(mut groups: Vec<u32>, a: u32, b: u32) -> Vec<u32>
 
 /// The group of a city.
 #[inline]
-fn group_of(groups: &[u32], city: u32) -> u32
+pub fn group_of(groups: &[u32], city: u32) -> u32
     ensures { result ≡ slice_index groups.now city }
 {
     groups.get(city as usize).copied().unwrap_or(0)
@@ -132,78 +133,81 @@ fn sums_to(
     Ok(values)
 }
 
-/// A group of a later city that is tied to that of `a`.
-fn tie_of(
+/// The degree of each city.
+pub fn degrees(alloc: Global, n: u32, entries: &[Entry]) -> Result<Vec<u64>, AllocError>
+    requires few { n ≤ 2000 }
+    requires entries { AreEntries n entries.now }
+    ensures size { IfOk result (λ v. length v.items ≡ n) }
+    ensures values { IfOk result (λ v. (k : ℕ) → k < n → slice_index v.items k ≡ crossing entries.now (λ j. j == k)) }
+{
+    let degrees = ends_of(alloc, n, entries)?;
+    Ok(degrees)
+}
+
+/// The same, modulo 2^64.
+fn ends_of(alloc: Global, n: u32, entries: &[Entry]) -> Result<Vec<u64>, AllocError>
+    ensures size { IfOk result (λ v. length v.items ≡ n) }
+    ensures sums { IfOk result (λ v. (k : ℕ) → k < n → slice_index v.items k ≡ crossing entries.now (λ j. j == k) % 2 ^ 64) }
+{
+    let mut degrees = vec![in alloc; 0u64; n as usize]?;
+    for entry in entries {
+        sums::add_ends(&mut degrees, *entry);
+    }
+    Ok(degrees)
+}
+
+/// Another group that is tied to that of `a`.
+fn tied_to(
     alloc: Global,
     n: u32,
     entries: &[Entry],
     groups: &[u32],
+    degrees: &[u64],
     a: u32,
 ) -> Result<Option<u32>, AllocError>
     requires few { n ≤ 2000 }
     requires entries { AreEntries n entries.now }
-    requires inside { a < n }
+    requires first { IsFirst n groups.now a }
+    requires size { length degrees.now ≡ n }
+    requires degrees { AreDegrees n entries.now groups.now degrees.now }
     ensures { IfOk result (λ o. MatchOption o
-        ((b : ℕ) → IsFirst n groups.now b → a < b → ¬ AreTied entries.now groups.now a b)
-        (λ b. IsFirst n groups.now b × ((a < b) × AreTied entries.now groups.now a b))) }
+        ((b : ℕ) → IsFirst n groups.now b → b ≢ a → ¬ AreTied entries.now groups.now a b)
+        (λ b. IsFirst n groups.now b × ((b ≢ a) × AreTied entries.now groups.now a b))) }
 {
-    let weight = weight_of(n, entries, groups, a);
+    let weight = degrees[a as usize];
     let values = values_to(alloc, n, entries, groups, a)?;
-    for b in a + 1..n {
-        let value = values[b as usize];
-        if group_of(groups, b) == b
-            && weight <= 2 * value
-            && weight_of(n, entries, groups, b) <= 2 * value
-        {
-            return Ok(Some(b));
-        }
-    }
-    Ok(None)
-}
-
-/// Two groups that are tied, the first from `low` on and before `high`.
-fn tie_within(
-    alloc: Global,
-    n: u32,
-    entries: &[Entry],
-    groups: &[u32],
-    low: u32,
-    high: u32,
-) -> Result<Option<(u32, u32)>, AllocError>
-    requires few { n ≤ 2000 }
-    requires entries { AreEntries n entries.now }
-    requires inside { high ≤ n }
-    ensures { IfOk result (λ o. MatchOption o
-        ((a b : ℕ) → low ≤ a → a < high → IsFirst n groups.now a → IsFirst n groups.now b → a < b → ¬ AreTied entries.now groups.now a b)
-        (λ t. IsFirst n groups.now t.0 × (IsFirst n groups.now t.1 × ((t.0 < t.1) × AreTied entries.now groups.now t.0 t.1)))) }
-{
-    for a in low..high {
-        if group_of(groups, a) == a {
-            if let Some(b) = tie_of(alloc, n, entries, groups, a)? {
-                return Ok(Some((a, b)));
+    for b in 0..n {
+        if b != a && group_of(groups, b) == b {
+            let value = values[b as usize];
+            if weight <= 2 * value && degrees[b as usize] <= 2 * value {
+                return Ok(Some(b));
             }
         }
     }
     Ok(None)
 }
 
-/// Two groups that are tied, sought from that of `from` on.
+/// The group of `a` and one that is tied to it, the lesser before the other.
 pub fn tie(
     alloc: Global,
     n: u32,
     entries: &[Entry],
     groups: &[u32],
-    from: u32,
+    degrees: &[u64],
+    a: u32,
 ) -> Result<Option<(u32, u32)>, AllocError>
     requires few { n ≤ 2000 }
     requires entries { AreEntries n entries.now }
-    requires inside { from ≤ n }
+    requires first { IsFirst n groups.now a }
+    requires size { length degrees.now ≡ n }
+    requires degrees { AreDegrees n entries.now groups.now degrees.now }
     ensures { IfOk result (λ o. MatchOption o
-        (AreUntied n entries.now groups.now)
-        (λ t. IsFirst n groups.now t.0 × (IsFirst n groups.now t.1 × ((t.0 < t.1) × AreTied entries.now groups.now t.0 t.1)))) }
+        ((b : ℕ) → IsFirst n groups.now b → b ≢ a → ¬ AreTied entries.now groups.now a b)
+        (λ t. IsTie n entries.now groups.now a t.0 t.1)) }
 {
-    match tie_within(alloc, n, entries, groups, from, n)? {
-        Some(tie) => Ok(Some(tie)),
-        None => tie_within(alloc, n, entries, groups, 0, from),
+    match tied_to(alloc, n, entries, groups, degrees, a)? {
+        Some(b) if b < a => Ok(Some((b, a))),
+        Some(b) => Ok(Some((a, b))),
+        None => Ok(None),
     }
 }

@@ -42,6 +42,29 @@ impl Network {
         Ok(Network { n, pairs, rows })
     }
 
+    /// The network of groups of the cities, of which city `k` is in that of number `numbers[k]`: each union of groups is crossed
+    /// by the same in both.
+    pub fn of_groups(
+        alloc: Global,
+        x: &Frac,
+        numbers: &[u32],
+        count: u32,
+    ) -> Result<Network, AllocError>
+        requires many { 3 ≤ count }
+        requires few { count ≤ 2000 }
+        requires numbers { (k : ℕ) → k < x.now.n → slice_index numbers.now k < count }
+        ensures cities { IfOk result (λ w. w.n ≡ count) }
+        ensures weights { IfOk result (λ w. (p : ℕ → Bool) → crossing_weight x.now (λ k. p (slice_index numbers.now k)) ≡ pos (crossing w.entries p)) }
+    {
+        let pairs = joined(alloc, x.n(), x.entries(), numbers, count)?;
+        let rows = Rows::of(alloc, count, &pairs)?;
+        Ok(Network {
+            n: count,
+            pairs,
+            rows,
+        })
+    }
+
     /// How many cities there are.
     pub fn n(&self) -> u32
         ensures value { result ≡ self.now.n }
@@ -105,4 +128,40 @@ fn positive(alloc: Global, n: u32, entries: &[Entry]) -> Result<Vec<Entry>, Allo
         }
     }
     Ok(pairs)
+}
+
+/// The entries of positive value between two groups, as pairs of these.
+fn joined(
+    alloc: Global,
+    n: u32,
+    entries: &[Entry],
+    numbers: &[u32],
+    count: u32,
+) -> Result<Vec<Entry>, AllocError>
+    requires pairs { All (IsPair n) entries.now }
+    requires numbers { (k : ℕ) → k < n → slice_index numbers.now k < count }
+    ensures within { IfOk result (λ v. All (IsPair count) v.items) }
+    ensures crossings { IfOk result (λ v. (p : ℕ → Bool) → crossing v.items p ≡ crossing entries.now (λ k. p (slice_index numbers.now k))) }
+{
+    let _sizes = (n, count);
+    let mut pairs = Vec::new(alloc);
+    for entry in entries {
+        let pair = Entry {
+            u: number_of(numbers, entry.u),
+            v: number_of(numbers, entry.v),
+            x: entry.x,
+        };
+        if pair.x > 0 && pair.u != pair.v {
+            pairs.push(pair)?;
+        }
+    }
+    Ok(pairs)
+}
+
+/// The number of a city's group.
+#[inline]
+fn number_of(numbers: &[u32], city: u32) -> u32
+    ensures { result ≡ slice_index numbers.now city }
+{
+    numbers.get(city as usize).copied().unwrap_or(0)
 }

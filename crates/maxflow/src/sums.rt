@@ -1,6 +1,8 @@
 //! Sums of values, one for each city.
-ghost use Rattle.std.specs.Prelude.{◌≡◌, ◌≢◌, ◌+◌, ◌%◌, ◌^◌, ◌<◌, ℕ, length, slice_index};
-ghost use Rattle.maxflow.specs.Crossings.{joining};
+ghost use Rattle.std.specs.Prelude.{◌≡◌, ◌≢◌, ◌==◌, ◌+◌, ◌%◌, ◌^◌, ◌<◌, ℕ, length, slice_index};
+ghost use Rattle.maxflow.specs.Crossings.{joining, crossing_at};
+
+use cyc::Entry;
 
 /// Adds the value of a pair to the sum of the one end, modulo 2^64, where the other end is `from`.
 #[inline]
@@ -12,6 +14,18 @@ pub fn add_from(sums: &mut [u64], from: u32, u: u32, v: u32, x: u32)
         add_at(sums, v, x);
     } else if v == from {
         add_at(sums, u, x);
+    }
+}
+
+/// Adds the value of a pair to the sums of both ends, modulo 2^64.
+#[inline]
+pub fn add_ends(sums: &mut [u64], entry: Entry)
+    ensures size { length sums.new ≡ length sums.old }
+    ensures sums { (k : ℕ) → k < length sums.old → slice_index sums.new k ≡ (slice_index sums.old k + crossing_at (λ j. j == k) entry) % 2 ^ 64 }
+{
+    if entry.u != entry.v {
+        add_at(sums, entry.u, entry.x);
+        add_at(sums, entry.v, entry.x);
     }
 }
 

@@ -2,3 +2,4 @@ pub mod SetLemmas
 pub mod WeightLemmas
 pub mod GrowthLemmas
 pub mod LeastLemmas
+pub mod UnionLemmas

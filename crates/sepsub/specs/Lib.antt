@@ -1,2 +1,3 @@
 pub mod LeastSets
 pub mod Growth
+pub mod Grouping

@@ -11,11 +11,13 @@ ghost use Rattle.std.specs.List.{All};
 ghost use Rattle.sepsub.specs.LeastSets.{IsLeastSet, IsViolated};
 
 mod components;
+mod groups;
 mod growth;
 mod sides;
+mod unions;
 
 use cyc::{CitySet, Frac};
-use maxflow::Network;
+use maxflow::{Network, shrink};
 use std::alloc::{AllocError, Global};
 
 /// What the crossing weight of a set has to stay below for it to be worth a cut: 2^10 units less than a tour's two crossings.
@@ -46,7 +48,8 @@ pub fn least_set(alloc: Global, x: &Frac) -> Result<LeastSet, AllocError>
 /// The least set, and light sets, of which there are some wherever the least set is light.
 ///
 /// Where the pairs of positive value do not join all cities, the sets are their components but one, and that of city 0 is a
-/// least set. Otherwise flows run into a growing set of cities (`growth`), and each side below [`LIGHT`] is kept.
+/// least set. Otherwise the cities are shrunk to groups ([`shrink`]), and flows run between these (`unions`) into a growing set
+/// of them (`growth`). Each side below [`LIGHT`] is kept, and the lightest of the groups.
 pub fn sweep(alloc: Global, x: &Frac) -> Result<Swept, AllocError>
     ensures least { IfOk result (λ s. IsLeastSet x.now s.least) }
     ensures sets { IfOk result (λ s. All (IsViolated x.now) s.sets.items) }
@@ -71,16 +74,8 @@ fn swept_to(alloc: Global, x: &Frac, reach: u64) -> Result<Swept, AllocError>
         };
         return Ok(Swept { least, sets });
     }
-    let found = growth::grown(alloc, &network, reach)?;
-    let set = sides::complement(alloc, &found.best.side)?;
-    let least = LeastSet {
-        weight: found.best.value,
-        set,
-    };
-    Ok(Swept {
-        least,
-        sets: found.sets,
-    })
+    let shrunk = shrink(alloc, x)?;
+    unions::swept(alloc, x, shrunk, reach)
 }
 
 #[cfg(test)]

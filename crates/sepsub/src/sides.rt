@@ -1,7 +1,8 @@
 //! Sides turned into sets and marks.
 ghost use Rattle.std.specs.Prelude.{◌≡◌, ◌<◌, ◌≤◌, ℕ, not, false, length, IfOk};
-ghost use Rattle.tspdef.specs.Sets.{has, IsSet};
+ghost use Rattle.tspdef.specs.Sets.{has, IsSet, IsProper};
 ghost use Rattle.maxflow.specs.Flows.{is_stop};
+ghost use Rattle.sepsub.specs.Grouping.{IsTurned};
 
 use cyc::{CitySet, CitySetError};
 use std::alloc::{AllocError, Global};
@@ -19,6 +20,18 @@ pub fn complement(alloc: Global, side: &CitySet) -> Result<CitySet, AllocError>
         Err(CitySetError::NotRising) => unreachable!(),
         Err(CitySetError::NoMemory) => Err(AllocError),
     }
+}
+
+/// A proper set, or its complement, whichever holds city 0.
+pub fn with_home(alloc: Global, side: CitySet) -> Result<CitySet, AllocError>
+    requires { IsProper side.n side.cities }
+    ensures { IfOk result (λ s. IsTurned side s) }
+{
+    if side.contains(0) {
+        return Ok(side);
+    }
+    let set = complement(alloc, &side)?;
+    Ok(set)
 }
 
 /// The cities below `n` outside a set, in rising order.

@@ -115,7 +115,8 @@ fn a_set_at_the_limit_is_no_cut(rt: HostRuntime) -> Result<(), Fail> {
         &[(0, 1, limit / 2), (0, 2, limit / 2), (1, 2, limit / 2 - 1)],
     )?;
     let swept = sweep(rt.alloc(), &below)?;
-    assert_eq!(rt; swept.sets.len(), 2);
+    assert_eq!(rt; swept.sets.len(), 1);
+    assert_eq!(rt; swept.sets[0].cities(), [1].as_slice());
     assert_eq!(rt; swept.least.weight, LIGHT - 1);
     Ok(())
 }

@@ -17,16 +17,3 @@ returns-then-is_proper-clause-least c =
 pub returns-then-is_proper-clause-sets : goal.returns-then-is_proper-clause-sets
 returns-then-is_proper-clause-sets c =
     all_violated c.args.x.now c.in_ok-network.network c.in_ok-network.ensures.cities c.in_ok-network.ensures.weights c.in_ok-sets.sets.items c.in_ok-sets.ensures.light
-
-pub returns-clause-least : goal.returns-clause-least
-returns-clause-least c =
-    let found = c.in_ok-found.found in
-    let e = c.in_ok-set.ensures in
-    turned_is_least c.args.x.now c.in_ok-network.network c.in_ok-network.ensures.cities c.in_ok-network.ensures.weights found
-    (record { weight = found.best.value; set = c.in_ok-set.set })
-    (some_of c.network.inside.n c.in_ok-network.network.n (ap (λ (v : Values). v.n) c.network.view_is) c.network.invariant.many)
-    c.in_ok-found.ensures refl e.cities e.set e.others
-
-pub returns-clause-sets : goal.returns-clause-sets
-returns-clause-sets c =
-    all_violated c.args.x.now c.in_ok-network.network c.in_ok-network.ensures.cities c.in_ok-network.ensures.weights c.in_ok-found.found.sets.items c.in_ok-found.ensures.sets

@@ -1,41 +1,30 @@
-use Rattle.std.proofs.Common.{◌≡◌, ◌≤◌, sym, ap, ◌∙◌, subst, arith}
-use Rattle.maxflow.specs.Crossings.{crossing}
+use Rattle.std.proofs.Common.{◌≡◌, ◌≤◌, ◌<◌, ℕ, ◌∙◌, slice_index, length, sym, subst, arith}
+use Rattle.std.proofs.lemmas.Grind.{get_or_default_zero}
+use Rattle.tspdef.specs.Sets.{has}
 use Rattle.maxflow.specs.Shrinking.{in_group}
-use Rattle.maxflow.proofs.ShrinkLemmas.{first_alone, light_alone, groups_alone, covers_alone, cities_alone}
+use Rattle.maxflow.proofs.ShrinkLemmas.{shrinks_alone, degrees_alone}
 use Rattle.maxflow.proofs.shrinking.alone.Goals as goal
-
-pub loop-a-init : goal.loop-a-init
-loop-a-init c =
-    let groups = c.in_ok-groups.groups.items in
-    let es = c.args.entries.now in
-    let e = c.in_ok-set.ensures in
-    let w = c.weight_of-best.ensures.value ∙ ap (λ v. crossing es (in_group v 0)) c.deref.ensures.value in
-    record {
-      best = first_alone c.args.n es groups c.deref.result.now c.deref-2.result.now c.weight_of-best.result c.in_ok-set.set c.requires.many c.requires.entries.each c.in_ok-groups.ensures.each
-          c.deref.ensures.value c.deref-2.ensures.value c.weight_of-best.ensures.value e.cities e.set e.members;
-      light = λ k h.
-          let z : k ≡ 0 = omega (arith, h) in
-          subst (λ j. c.weight_of-best.result ≤ crossing es (in_group groups j)) (sym z) (omega (arith, w));
-    }
-
-pub loop-a-preserved : goal.loop-a-preserved
-loop-a-preserved c =
-    let e = c.in_ok-lesser.ensures in
-    record {
-      best = e.weighed;
-      light = light_alone c.args.n c.args.entries.now c.in_ok-groups.groups.items c.deref-in-loop-a.result.now c.loop-a.a c.loop-a.best c.in_ok-lesser.lesser
-          c.loop-a.auto.a c.loop-a-test.true c.in_ok-groups.ensures.each c.deref-in-loop-a.ensures.value e.less c.loop-a.invariant.light e.light;
-    }
 
 pub returns : goal.returns
 returns c =
-    let groups = c.in_ok-groups.groups.items in
+    let n = c.args.n in
     let es = c.args.entries.now in
-    let past = c.loop-a-test.false in
+    let groups = c.in_ok-groups.groups in
+    let degrees = c.in_ok-degrees.degrees in
+    let city = c.lightest-city.result in
+    let e = c.in_ok-set.ensures in
+    let size = c.in_ok-degrees.ensures.size in
+    let same = c.deref.ensures.value in
+    let inside : city < length degrees.items = subst (λ v. city < length v) same c.lightest-city.ensures.inside in
+    let least : (k : ℕ) → k < length degrees.items → slice_index degrees.items city ≤ slice_index degrees.items k =
+    subst (λ v. (k : ℕ) → k < length v → slice_index v city ≤ slice_index v k) same c.lightest-city.ensures.least in
+    let best = c.index-best.ensures ∙ get_or_default_zero degrees.items city c.index-best.result.now inside in
     record {
-      groups = groups_alone c.args.n groups c.in_ok-groups.ensures.size c.in_ok-groups.ensures.each;
-      best = c.loop-a.invariant.best;
-      cities = λ k h. cities_alone c.args.n es groups c.loop-a.best k c.requires.entries.each c.in_ok-groups.ensures.each (c.loop-a.invariant.light k (omega (arith, h, past)));
-      light = λ a b fa fb ne. c.loop-a.invariant.light a (let h = fa.below in omega (arith, h, past));
-      covered = covers_alone c.args.n es groups c.loop-a.best c.in_ok-groups.ensures.each;
+      so_far = record {
+        shrinking = shrinks_alone n es (record { groups = groups; best = c.index-best.result.now; set = c.in_ok-set.set }) degrees.items city c.requires.many c.requires.entries.each
+            c.in_ok-groups.ensures.size c.in_ok-groups.ensures.each c.in_ok-degrees.ensures.values (omega (arith, inside, size)) (λ k h. least k (omega (arith, h, size))) best e.cities e.set
+            (subst (λ v. (k : ℕ) → k < n → has c.in_ok-set.set.cities k ≡ in_group v city k) c.deref-2.ensures.value e.members);
+        size = size;
+        degrees = degrees_alone n es groups.items degrees.items c.requires.entries.each c.in_ok-groups.ensures.each c.in_ok-degrees.ensures.values;
+      };
     }

@@ -1,13 +1,8 @@
-use Rattle.std.proofs.Common.{◌≤◌}
-use Rattle.std.specs.List.{sum}
-use Rattle.maxflow.specs.Shrinking.{IsShrinking}
+use Rattle.maxflow.specs.Merging.{AreUntiedBelow, IsMerging}
 use Rattle.maxflow.proofs.shrinking.shrink.Given as goal
 
-abbrev pub invariant-loop-shrunk : goal.invariant-loop-shrunk
-invariant-loop-shrunk l = record {
-  shrinking : IsShrinking l.n l.entries l.shrunk;
-  inside : l.from ≤ l.n;
+abbrev pub invariant-loop-a : goal.invariant-loop-a
+invariant-loop-a l = record {
+  so_far : IsMerging l.n l.entries l.merging;
+  below : AreUntiedBelow l.n l.entries l.merging.shrunk.groups.items l.a l.n;
 }
-
-abbrev pub decreases-loop-shrunk : goal.decreases-loop-shrunk
-decreases-loop-shrunk l = sum l.shrunk.groups.items
