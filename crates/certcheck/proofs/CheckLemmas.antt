@@ -9,9 +9,9 @@ use Rattle.tspdef.specs.Instances.{Instance}
 use Rattle.certdef.specs.Items.{item_of, longest}
 use Rattle.certdef.specs.Accepted.{most_bytes, IsAcceptedText}
 use Rattle.verdict.specs.Laws.{YesIsAcceptedText}
-use Rattle.certdef.specs.Tests.{Tests, verifier}
+use Rattle.certdef.specs.Tests.{Tests}
 use Rattle.certdef.specs.Verdicts.{Verdict, yes, no, Outcome, go, refused, is_end, line_step}
-use Rattle.certdef.specs.Bytes.{Reading, Read, reads, stops, start, line_on, byte_on, bytes_on, end_of, verdict, verdict_at_end}
+use Rattle.certdef.specs.Bytes.{Reading, Read, reads, stops, line_on, byte_on, bytes_on, verdict}
 use Rattle.certcheck.specs.Answers.{verdict_of, Tells}
 use Rattle.certcheck.specs.declared.answer.Answer.{Answer}
 use Rattle.certcheck.specs.declared.answer.Answer.TheVariants as answers

@@ -6,7 +6,7 @@ use Rattle.tspdef.specs.Instances.{Instance}
 use Rattle.certdef.specs.Items.{item_of, longest}
 use Rattle.certdef.specs.Accepted.{most_bytes}
 use Rattle.certdef.specs.Tests.{Tests, verifier}
-use Rattle.certdef.specs.Verdicts.{Verdict, no, Outcome, go, refused, is_end, line_step}
+use Rattle.certdef.specs.Verdicts.{Verdict, Outcome, go, refused, is_end, line_step}
 use Rattle.certdef.specs.Bytes.{Reading, Read, reads, stops, start, line_on, byte_on, bytes_on, end_of, verdict, verdict_at_end}
 use Rattle.certcheck.specs.Checkers.{Checking, HasRead, IsRefusalOf}
 use Rattle.certcheck.specs.Readings.{Reads}

@@ -1,15 +1,14 @@
 -- The table of the pairs that a path decides, as the path grows and shrinks.
-use Rattle.std.proofs.Common.{◌≡◌, ℕ, ◌+◌, ◌*◌, ◌<◌, ◌≤◌, Bool, true, false, not, ◌||◌, ◌&&◌, ◌==◌, List, [], ◌∷◌, ◌++◌, length, set, get_or, refl, sym, ap, subst, ◌∙◌, arith, inl, inr, Option, Some, None}
+use Rattle.std.proofs.Common.{◌≡◌, ℕ, ◌+◌, ◌*◌, ◌<◌, ◌≤◌, Bool, true, false, not, ◌||◌, ◌&&◌, ◌==◌, List, [], ◌∷◌, ◌++◌, length, set, get_or, refl, sym, ap, subst, ◌∙◌, arith, inl, inr, Option}
 use Rattle.std.specs.Prelude.{IfSome, ◌⊎◌}
-use Rattle.std.proofs.lemmas.Bool.{cases_eq, eq-eqb, ne_eqb, or_left, or_right, or_from, and_from, and_left, and_right}
-use Rattle.std.proofs.lemmas.Nat.{same_from_place, mul-add-lt}
+use Rattle.std.proofs.lemmas.Bool.{cases_eq, eq-eqb, ne_eqb, or_left, or_from, and_from, and_left, and_right}
+use Rattle.std.proofs.lemmas.Nat.{same_from_place}
 use Rattle.std.proofs.lemmas.List.{get_or-set_same, get_or-set_other, get_or_past}
 use Rattle.tspdef.specs.Tours.{joins}
 use Rattle.tspdef.specs.Paths.{Condition, fixed, absent, present, two, four, is_decided, IsPair, MayFollow}
 use Rattle.branchx.specs.Cond.{pair_of, decides}
 use Rattle.branchx.specs.Table.{tabled}
 use Rattle.branchx.proofs.PathLemmas.{is_decided-push}
-use Rattle.branchx.proofs.TableLemmas.{tabled-set}
 use Rattle.branchx.specs.Path.{Conditions}
 use Rattle.certcheck.specs.Marked.{on_pair, HasRoom, AreMarksOf}
 

@@ -1,5 +1,5 @@
 -- A checker that is fed a text in pieces.
-use Rattle.std.specs.Prelude.{◌≡◌, ℕ, ◌+◌, Bool, not, List, [], ◌∷◌, length}
+use Rattle.std.specs.Prelude.{◌≡◌, ℕ, ◌+◌, Bool, not, List, ◌∷◌, length}
 use Rattle.tspdef.specs.Instances.{Instance}
 use Rattle.tspdef.specs.Paths.{branches}
 use Rattle.branchx.specs.declared.cond.Cond.{Cond}

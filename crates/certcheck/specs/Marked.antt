@@ -1,5 +1,5 @@
 -- The table of the pairs that a path decides.
-use Rattle.std.specs.Prelude.{◌≡◌, ℕ, ◌*◌, ◌<◌, ◌⊎◌, Bool, false, List, [], length, Option, Some, None}
+use Rattle.std.specs.Prelude.{◌≡◌, ℕ, ◌*◌, ◌<◌, ◌⊎◌, Bool, false, List, length, Option, Some, None}
 use Rattle.tspdef.specs.Tours.{joins}
 use Rattle.tspdef.specs.Paths.{Condition, is_decided}
 use Rattle.branchx.specs.Table.{tabled}

@@ -1,9 +1,9 @@
-use Rattle.std.proofs.Common.{◌≡◌, ◌+◌, ◌++◌, ◌≤◌, ◌^◌, List, ℕ, length, take, refl, sym, ◌∙◌, arith, rules}
+use Rattle.std.proofs.Common.{◌+◌, ◌++◌, length, take, refl, ◌∙◌, arith, rules}
 use Rattle.std.proofs.lemmas.List.{length-take, length-append}
 use Rattle.ports.specs.declared.desk.Inlet.TheVariants as inlet
 use Rattle.ports.proofs.Transfers.{takes_more, takes_then_stops, takes_once_more}
 use Rattle.certdef.specs.Tests.{verifier}
-use Rattle.certdef.specs.Bytes.{start, reads, bytes_on}
+use Rattle.certdef.specs.Bytes.{start}
 use Rattle.certcheck.proofs.CheckerLemmas.{fed_on, refused_of, ended_of}
 use Rattle.certcheck.proofs.CheckLemmas.{refusal_told, read_grows, ends_judged}
 use Rattle.certcheck.proofs.TakenLemmas.{taken_after, taken_before}

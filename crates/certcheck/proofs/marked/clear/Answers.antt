@@ -1,4 +1,4 @@
-use Rattle.std.proofs.Common.{◌≡◌, ℕ, ◌+◌, ◌*◌, ◌<◌, ◌&&◌, not, Bool, false, List, length, set, sym, ap, subst, ◌∙◌, Option, Some, arith}
+use Rattle.std.proofs.Common.{◌≡◌, ℕ, ◌+◌, ◌*◌, ◌<◌, ◌&&◌, not, false, length, set, sym, ap, subst, ◌∙◌, Option, arith}
 use Rattle.std.specs.Prelude.{IfSome}
 use Rattle.tspdef.specs.Paths.{IsPair}
 use Rattle.branchx.specs.Table.{tabled}

@@ -1,4 +1,4 @@
-use Rattle.std.proofs.Common.{◌≡◌, ℕ, ◌+◌, ◌*◌, ◌<◌, ◌||◌, Bool, true, List, length, set, sym, ap, subst, ◌∙◌, Option, Some}
+use Rattle.std.proofs.Common.{◌≡◌, ℕ, ◌*◌, ◌||◌, true, length, set, sym, ap, subst, ◌∙◌, Option}
 use Rattle.std.specs.Prelude.{IfSome}
 use Rattle.tspdef.specs.Paths.{IsPair}
 use Rattle.branchx.specs.Table.{tabled}
