@@ -24,13 +24,16 @@ use Rattle.bossx.specs.declared.replies.Offered.TheVariants as tours
 use Rattle.bossx.specs.Books.{Book, best_length, key_at, node_of, content_of, released, granted, lost}
 use Rattle.bossx.specs.Judging.{BranchFits, IsBranchMisfit, ReportFits, IsReportMisfit, BroughtFits, IsMisfitOf, IsWeak, Suffices, IsJudged}
 use Rattle.bossx.specs.Answers.{IsAnswer, reported_after, own_after}
-use Rattle.bossx.specs.Steps.{Event, Reply, ask, report, own, gone, expire, offer, asked, reported, went, expired, offered, IsFirstFree, IsFirstOff, Step, ask_done, ask_spent, ask_home, ask_not_yet, ask_leased, report_unknown, report_stale, report_spent, report_misfit, report_weak, report_taken, own_stale, own_spent, own_misfit, own_weak, own_taken, gone_idle, gone_lost, expire_unknown, expire_ended, expire_lost, offer_other_size, offer_off_fixed, offer_not_shorter, offer_better}
-use Rattle.bossx.specs.Laws.{StepsHaveNoChoice}
+use Rattle.bossx.specs.Steps.{IsFirstFree, IsFirstOff, Run, run_ends, run_goes_on, Step, ask_done, ask_spent, ask_home, ask_not_yet, ask_leased, report_unknown, report_stale, report_spent, report_misfit, report_weak, report_taken, own_stale, own_spent, own_misfit, own_weak, own_taken, gone_idle, gone_lost, expire_unknown, expire_ended, expire_lost, offer_other_size, offer_off_fixed, offer_not_shorter, offer_better}
+use Rattle.bossx.specs.Laws.{StepsHaveNoChoice, RunsHaveNoChoice}
 use Rattle.bossx.proofs.Rows.{open_as_before, settled_as_before, budget_as_before, best_as_before, released_length}
+use Rattle.bossx.specs.declared.events.Event.TheVariants as event
+use Rattle.bossx.specs.declared.events.Reply.{Reply}
+use Rattle.bossx.specs.declared.events.Reply.TheVariants as heard
 
 -- ---- misfits
 
-closing_unfit : (n : ℕ) (path : List Condition) (c : Closing) (k : ℕ) → IsMisfit n path c k → Fits n path c → ⊥
+pub closing_unfit : (n : ℕ) (path : List Condition) (c : Closing) (k : ℕ) → IsMisfit n path c k → Fits n path c → ⊥
 closing_unfit n path c k m f = ⊎_elim (λ a. a.1 f.counts) (λ m2. ⊎_elim (λ a. a.2 f.sizes) (λ m3. ⊎_elim (λ a. a.3 f.cuts) (λ a. a.4 f.depths) m3) m2) m
 
 closing_misfit : (n : ℕ) (path : List Condition) (c : Closing) (k j : ℕ) → IsMisfit n path c k → IsMisfit n path c j → k ≡ j
@@ -114,11 +117,11 @@ judged_once b node w judged.Taken judged.Taken h g = refl
 -- the rows of a report
 record IsReportRow (b : Book) (l : ℕ) (w : Brought) (r : Reply) (new : Book) : Type 0 where
   answer : Reported
-  reply : r ≡ reported answer
+  reply : r ≡ heard.Reported answer
   after : new ≡ reported_after b l w answer
   why : ((answer ≡ judged.Unknown) × (length b.table.leases ≤ l)) ⊎ ((l < length b.table.leases) × IsJudged b (node_of b l) w answer)
 
-report_row : (b : Book) (l : ℕ) (w : Brought) (new : Book) (r : Reply) → Step b (report l w) r new → IsReportRow b l w r new
+report_row : (b : Book) (l : ℕ) (w : Brought) (new : Book) (r : Reply) → Step b (event.Report l w) r new → IsReportRow b l w r new
 report_row b l w new r (report_unknown l2 w2 past) = record { answer = judged.Unknown; reply = refl; after = refl; why = inl (refl, past) }
 report_row b l w new r (report_stale l2 w2 known h) = record { answer = judged.Stale; reply = refl; after = refl; why = inr (known, h) }
 report_row b l w new r (report_spent l2 w2 known h) = record { answer = judged.Spent; reply = refl; after = refl; why = inr (known, h) }
@@ -132,16 +135,16 @@ report_once b n m l w r s x y =
     (λ a. ⊎_elim (λ o. a.0 ∙ sym o.0) (λ o. let p = a.1 in let q = o.0 in absurd (omega (arith, p, q))) y.why)
     (λ a. ⊎_elim (λ o. let p = a.0 in let q = o.1 in absurd (omega (arith, p, q))) (λ o. judged_once b (node_of b l) w x.answer y.answer a.1 o.1) y.why)
     x.why in
-    (x.reply ∙ ap reported same ∙ sym y.reply, x.after ∙ ap (reported_after b l w) same ∙ sym y.after)
+    (x.reply ∙ ap heard.Reported same ∙ sym y.reply, x.after ∙ ap (reported_after b l w) same ∙ sym y.after)
 
 -- the rows of a report of the boss itself
 record IsOwnRow (b : Book) (node : ℕ) (w : Report) (r : Reply) (new : Book) : Type 0 where
   answer : Reported
-  reply : r ≡ reported answer
+  reply : r ≡ heard.Reported answer
   after : new ≡ own_after b node (Plain w) answer
   why : IsJudged b node (Plain w) answer
 
-own_row : (b : Book) (node : ℕ) (w : Report) (new : Book) (r : Reply) → Step b (own node w) r new → IsOwnRow b node w r new
+own_row : (b : Book) (node : ℕ) (w : Report) (new : Book) (r : Reply) → Step b (event.Own node w) r new → IsOwnRow b node w r new
 own_row b node w new r (own_stale n2 w2 h) = record { answer = judged.Stale; reply = refl; after = refl; why = h }
 own_row b node w new r (own_spent n2 w2 h) = record { answer = judged.Spent; reply = refl; after = refl; why = h }
 own_row b node w new r (own_misfit n2 w2 k h) = record { answer = judged.Misfit k; reply = refl; after = refl; why = h }
@@ -151,7 +154,7 @@ own_row b node w new r (own_taken n2 w2 h) = record { answer = judged.Taken; rep
 own_once : (b n m : Book) (node : ℕ) (w : Report) (r s : Reply) → IsOwnRow b node w r n → IsOwnRow b node w s m → (r ≡ s) × (n ≡ m)
 own_once b n m node w r s x y =
     let same = judged_once b node (Plain w) x.answer y.answer x.why y.why in
-    (x.reply ∙ ap reported same ∙ sym y.reply, x.after ∙ ap (own_after b node (Plain w)) same ∙ sym y.after)
+    (x.reply ∙ ap heard.Reported same ∙ sym y.reply, x.after ∙ ap (own_after b node (Plain w)) same ∙ sym y.after)
 
 -- ---- grunts that ask
 
@@ -163,10 +166,10 @@ first_once b k j x y = ⊎_elim
 
 record IsAskRow (b : Book) (g : ℕ) (r : Reply) (new : Book) : Type 0 where
   answer : Asked
-  reply : r ≡ asked answer
+  reply : r ≡ heard.Asked answer
   why : IsAnswer (released b g) g answer new
 
-ask_row : (b : Book) (g : ℕ) (new : Book) (r : Reply) → Step b (ask g) r new → IsAskRow b g r new
+ask_row : (b : Book) (g : ℕ) (new : Book) (r : Reply) → Step b (event.Ask g) r new → IsAskRow b g r new
 ask_row b g new r (ask_done g2 z) = let e = open_as_before b (of_grunt b.table.leases g) in record { answer = told.Done; reply = refl; why = (e ∙ z, refl) }
 ask_row b g new r (ask_spent g2 some spent) =
     let o = of_grunt b.table.leases g in
@@ -216,7 +219,7 @@ answer_once b n m g (told.Leased l k x) (told.Leased l2 k2 x2) h q = let e = fir
 ask_once : (b n m : Book) (g : ℕ) (r s : Reply) → IsAskRow b g r n → IsAskRow b g s m → (r ≡ s) × (n ≡ m)
 ask_once b n m g r s x y =
     let e = answer_once (released b g) n m g x.answer y.answer x.why y.why in
-    (x.reply ∙ ap asked e.0 ∙ sym y.reply, e.1)
+    (x.reply ∙ ap heard.Asked e.0 ∙ sym y.reply, e.1)
 
 -- ---- tours that are offered
 
@@ -231,7 +234,7 @@ step_before es (q ∷ qs) k zero p l h e = absurd (omega (arith, l))
 step_before es (q ∷ qs) zero (suc j) p l h e = let same : q ≡ p = cc in subst (λ (z : ℕ × ℕ). has_step es z.0 z.1 ≡ true) same h.0
 step_before es (q ∷ qs) (suc k) (suc j) p l h e = step_before es qs k j p (omega (arith, l)) h.1 e
 
-off_held : (es pairs : List (ℕ × ℕ)) (u v : ℕ) → IsFirstOff es pairs u v → AreSteps es pairs → ⊥
+pub off_held : (es pairs : List (ℕ × ℕ)) (u v : ℕ) → IsFirstOff es pairs u v → AreSteps es pairs → ⊥
 off_held es pairs u v off h = false≢true (sym off.off ∙ step_at es pairs off.place (u, v) h off.here)
 
 some_pair : (p q : ℕ × ℕ) → Some p ≡ Some q → p ≡ q
@@ -251,13 +254,13 @@ off_once es pairs u v x y a o = ⊎_elim
 same_off : (u v x y : ℕ) → u ≡ x → v ≡ y → tours.OffFixed u v ≡ tours.OffFixed x y
 same_off u v x y e f = ap (λ (z : ℕ). tours.OffFixed z v) e ∙ ap (λ (z : ℕ). tours.OffFixed x z) f
 
-offer_once : (b : Book) (t : List ℕ) (n m : Book) (r s : Reply) → Step b (offer t) r n → Step b (offer t) s m → (r ≡ s) × (n ≡ m)
+offer_once : (b : Book) (t : List ℕ) (n m : Book) (r s : Reply) → Step b (event.Offer t) r n → Step b (event.Offer t) s m → (r ≡ s) × (n ≡ m)
 offer_once b t n m r s (offer_other_size t1 ne) (offer_other_size t2 ne2) = (refl, refl)
 offer_once b t n m r s (offer_other_size t1 ne) (offer_off_fixed t2 u v same off) = absurd (ne same)
 offer_once b t n m r s (offer_other_size t1 ne) (offer_not_shorter t2 is long) = absurd (ne is.is_tour.all)
 offer_once b t n m r s (offer_other_size t1 ne) (offer_better t2 is shorter) = absurd (ne is.is_tour.all)
 offer_once b t n m r s (offer_off_fixed t1 u v same off) (offer_other_size t2 ne) = absurd (ne same)
-offer_once b t n m r s (offer_off_fixed t1 u v same off) (offer_off_fixed t2 x y same2 off2) = let e = off_once (steps t) b.instance.fixed u v x y off off2 in (ap offered (same_off u v x y e.0 e.1), refl)
+offer_once b t n m r s (offer_off_fixed t1 u v same off) (offer_off_fixed t2 x y same2 off2) = let e = off_once (steps t) b.instance.fixed u v x y off off2 in (ap heard.Offered (same_off u v x y e.0 e.1), refl)
 offer_once b t n m r s (offer_off_fixed t1 u v same off) (offer_not_shorter t2 is long) = absurd (off_held _ _ u v off is.holds_fixed)
 offer_once b t n m r s (offer_off_fixed t1 u v same off) (offer_better t2 is shorter) = absurd (off_held _ _ u v off is.holds_fixed)
 offer_once b t n m r s (offer_not_shorter t1 is long) (offer_other_size t2 ne) = absurd (ne is.is_tour.all)
@@ -277,13 +280,13 @@ no_lease_found o e f = cc
 same_lease : (o : Option ℕ) (l k : ℕ) → o ≡ Some l → o ≡ Some k → l ≡ k
 same_lease o l k e f = cc
 
-gone_once : (b : Book) (g : ℕ) (n m : Book) (r s : Reply) → Step b (gone g) r n → Step b (gone g) s m → (r ≡ s) × (n ≡ m)
+gone_once : (b : Book) (g : ℕ) (n m : Book) (r s : Reply) → Step b (event.Gone g) r n → Step b (event.Gone g) s m → (r ≡ s) × (n ≡ m)
 gone_once b g n m r s (gone_idle g1 e) (gone_idle g2 f) = (refl, refl)
 gone_once b g n m r s (gone_idle g1 e) (gone_lost g2 l f) = absurd (no_lease_found _ e f)
 gone_once b g n m r s (gone_lost g1 l e) (gone_idle g2 f) = absurd (no_lease_found _ f e)
-gone_once b g n m r s (gone_lost g1 l e) (gone_lost g2 k f) = let same = same_lease _ l k e f in (ap (λ (z : ℕ). went (Some z)) same, ap (lost b) same)
+gone_once b g n m r s (gone_lost g1 l e) (gone_lost g2 k f) = let same = same_lease _ l k e f in (ap (λ (z : ℕ). heard.Went (Some z)) same, ap (lost b) same)
 
-expire_once : (b : Book) (l : ℕ) (n m : Book) (r s : Reply) → Step b (expire l) r n → Step b (expire l) s m → (r ≡ s) × (n ≡ m)
+expire_once : (b : Book) (l : ℕ) (n m : Book) (r s : Reply) → Step b (event.Expire l) r n → Step b (event.Expire l) s m → (r ≡ s) × (n ≡ m)
 expire_once b l n m r s (expire_unknown l1 past) (expire_unknown l2 past2) = (refl, refl)
 expire_once b l n m r s (expire_unknown l1 past) (expire_ended l2 known e) = absurd (omega (arith, past, known))
 expire_once b l n m r s (expire_unknown l1 past) (expire_lost l2 known e) = absurd (omega (arith, past, known))
@@ -297,9 +300,19 @@ expire_once b l n m r s (expire_lost l1 known e) (expire_lost l2 known2 e2) = (r
 -- ---- all events
 
 pub steps_have_no_choice : StepsHaveNoChoice
-steps_have_no_choice b n m (ask g) r s x y = ask_once b n m g r s (ask_row b g n r x) (ask_row b g m s y)
-steps_have_no_choice b n m (report l w) r s x y = report_once b n m l w r s (report_row b l w n r x) (report_row b l w m s y)
-steps_have_no_choice b n m (own node w) r s x y = own_once b n m node w r s (own_row b node w n r x) (own_row b node w m s y)
-steps_have_no_choice b n m (gone g) r s x y = gone_once b g n m r s x y
-steps_have_no_choice b n m (expire l) r s x y = expire_once b l n m r s x y
-steps_have_no_choice b n m (offer t) r s x y = offer_once b t n m r s x y
+steps_have_no_choice b n m (event.Ask g) r s x y = ask_once b n m g r s (ask_row b g n r x) (ask_row b g m s y)
+steps_have_no_choice b n m (event.Report l w) r s x y = report_once b n m l w r s (report_row b l w n r x) (report_row b l w m s y)
+steps_have_no_choice b n m (event.Own node w) r s x y = own_once b n m node w r s (own_row b node w n r x) (own_row b node w m s y)
+steps_have_no_choice b n m (event.Gone g) r s x y = gone_once b g n m r s x y
+steps_have_no_choice b n m (event.Expire l) r s x y = expire_once b l n m r s x y
+steps_have_no_choice b n m (event.Offer t) r s x y = offer_once b t n m r s x y
+
+same_list : (r s : Reply) (rs ss : List Reply) → r ≡ s → rs ≡ ss → r ∷ rs ≡ s ∷ ss
+same_list r s rs ss e f = ap (λ (z : Reply). z ∷ rs) e ∙ ap (λ (z : List Reply). s ∷ z) f
+
+pub runs_have_no_choice : RunsHaveNoChoice
+runs_have_no_choice b n m es rs ss (run_ends b1) (run_ends b2) = (refl, refl)
+runs_have_no_choice b n m es rs ss (run_goes_on b1 x n1 e r es1 rs1 s rest) (run_goes_on b2 y m1 e2 r2 es2 rs2 t more) =
+    let one = steps_have_no_choice b x y e r r2 s t in
+    let all = runs_have_no_choice y n m es1 rs1 rs2 (subst (λ (z : Book). Run z es1 rs1 n) one.1 rest) more in
+    (same_list r r2 rs1 rs2 one.0 all.0, all.1)

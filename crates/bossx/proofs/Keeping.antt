@@ -6,9 +6,9 @@ use Rattle.treebook.proofs.Covering.{less_is_kept}
 use Rattle.leasebook.proofs.HolderLemmas.{found}
 use Rattle.bossx.specs.Books.{Book, best_length, level, released, with_best, node_of}
 use Rattle.bossx.specs.Judging.{MayBeTaken}
-use Rattle.bossx.specs.Steps.{Event, Reply, Step, ask_done, ask_spent, ask_home, ask_not_yet, ask_leased, report_unknown, report_stale, report_spent, report_misfit, report_weak, report_taken, own_stale, own_spent, own_misfit, own_weak, own_taken, gone_idle, gone_lost, expire_unknown, expire_ended, expire_lost, offer_other_size, offer_off_fixed, offer_not_shorter, offer_better, Run, run_ends, run_goes_on}
+use Rattle.bossx.specs.Steps.{Step, ask_done, ask_spent, ask_home, ask_not_yet, ask_leased, report_unknown, report_stale, report_spent, report_misfit, report_weak, report_taken, own_stale, own_spent, own_misfit, own_weak, own_taken, gone_idle, gone_lost, expire_unknown, expire_ended, expire_lost, offer_other_size, offer_off_fixed, offer_not_shorter, offer_better, Run, run_ends, run_goes_on}
 use Rattle.bossx.specs.Kept.{IsBook}
-use Rattle.bossx.specs.Laws.{StepsKeepBooks, RunsKeepBooks}
+use Rattle.bossx.specs.Laws.{StepsKeepBooks, RunsKeepBooks, BooksStaySmall}
 use Rattle.bossx.proofs.LendingLemmas.{lost_kept, released_kept, dropped_kept, granted_kept, idle_released}
 use Rattle.bossx.proofs.SettlingLemmas.{taken_kept}
 
@@ -61,3 +61,9 @@ step_keeps b new e r (offer_better t is shorter) k = better_kept b t is shorter 
 pub run_keeps : RunsKeepBooks
 run_keeps b new es rs (run_ends b') k = k
 run_keeps b new es rs (run_goes_on b' mid new' e r es' rs' s rest) k = run_keeps mid new es' rs' rest (step_keeps b mid e r s k)
+
+pub books_stay_small : BooksStaySmall
+books_stay_small b k =
+    let c = k.charged in
+    let w = c.within in let e = c.entries in let g = c.grants in let m = c.made in
+    record { settled = w; grants = g; nodes = omega (arith, w, m); entries = omega (arith, e, g, w) }

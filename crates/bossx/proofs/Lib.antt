@@ -8,3 +8,5 @@ pub mod Room
 pub mod Beginning
 pub mod Kept
 pub mod Deciding
+pub mod Reporting
+pub mod Playing

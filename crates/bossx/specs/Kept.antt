@@ -71,6 +71,8 @@ pub record HasRoom (b : Book) : Type 0 where
 -- a book at its start: what it was made of, each node with key 0, and nothing lent or settled yet
 pub record IsStart (i : Instance) (t : trees.Table) (tour : List ℕ) (most count miss : ℕ) (b : Book) : Type 0 where
   pub instance : b.instance ≡ i
+  pub cities : b.tree.n ≡ t.n
+  pub fixed : b.tree.fixed ≡ t.fixed
   pub nodes : b.tree.nodes ≡ t.nodes
   pub keys : b.keys ≡ replicate (length t.nodes) (pos 0)
   pub best : b.best ≡ tour

@@ -23,21 +23,19 @@ use Rattle.bossx.specs.declared.replies.Front.{Front}
 use Rattle.bossx.specs.declared.replies.Front.TheVariants as fronts
 use Rattle.bossx.specs.Books.{Book, best_length, key_at, node_of, IsFree, released, granted, dropped, lost, taken, with_best}
 use Rattle.bossx.specs.Judging.{IsSpent, IsUnfit, IsTooWeak, MayBeTaken}
+use Rattle.bossx.specs.declared.events.Event.{Event}
+use Rattle.bossx.specs.declared.events.Event.TheVariants as event
+use Rattle.bossx.specs.declared.events.Reply.{Reply}
+use Rattle.bossx.specs.declared.events.Reply.TheVariants as heard
 
-pub data Event : Type 0 where
-  ask : (grunt : ℕ) → Event
-  report : (lease : ℕ) → (what : Brought) → Event
-  own : (node : ℕ) → (what : Report) → Event
-  gone : (grunt : ℕ) → Event
-  expire : (lease : ℕ) → Event
-  offer : (tour : List ℕ) → Event
-
-pub data Reply : Type 0 where
-  asked : Asked → Reply
-  reported : Reported → Reply
-  went : Option ℕ → Reply
-  expired : Expiry → Reply
-  offered : Offered → Reply
+-- a grunt that asks is one of so many, numbered from 1 on
+abbrev pub IsCall : ℕ → Event → Type 0
+IsCall grunts (event.Ask g) = (1 ≤ g) × (g ≤ grunts)
+IsCall grunts (event.Report l w) = Unit {0}
+IsCall grunts (event.Own node r) = Unit {0}
+IsCall grunts (event.Gone g) = Unit {0}
+IsCall grunts (event.Expire l) = Unit {0}
+IsCall grunts (event.Offer t) = Unit {0}
 
 -- ---- grunts that ask
 
@@ -85,31 +83,31 @@ pub record IsFirstOff (es pairs : List (ℕ × ℕ)) (u v : ℕ) : Type 0 where
 -- A grunt that asks has lost the lease that it held. A report names a lease; where it is of no use although the node is open, the
 -- lease is lost, if it was held. Reports of the boss itself name a node. No event has a choice.
 pub data Step (b : Book) : Event → Reply → Book → Type 0 where
-  ask_done : (g : ℕ) → count_open b ≡ 0 → Step b (ask g) (asked told.Done) (released b g)
-  ask_spent : (g : ℕ) → 0 < count_open b → b.settled ≡ b.budget → Step b (ask g) (asked told.Spent) (released b g)
-  ask_home : (g : ℕ) → 0 < count_open b → b.settled < b.budget → 256 ≤ count_lost (released b g) → Step b (ask g) (asked told.Home) (released b g)
-  ask_not_yet : (g : ℕ) → IsAtWork (released b g) → AllIsLent (released b g) → Step b (ask g) (asked told.NotYet) (released b g)
-  ask_leased : (g node : ℕ) → IsNext (released b g) node → Step b (ask g) (asked (told.Leased (length b.table.leases) node (best_length b))) (granted (released b g) g node)
-  report_unknown : (l : ℕ) (w : Brought) → length b.table.leases ≤ l → Step b (report l w) (reported judged.Unknown) b
-  report_stale : (l : ℕ) (w : Brought) → l < length b.table.leases → ¬ IsOpen b.tree.nodes (node_of b l) → Step b (report l w) (reported judged.Stale) b
-  report_spent : (l : ℕ) (w : Brought) → l < length b.table.leases → IsSpent b (node_of b l) → Step b (report l w) (reported judged.Spent) (dropped b l)
-  report_misfit : (l : ℕ) (w : Brought) (k : ℕ) → l < length b.table.leases → IsUnfit b (node_of b l) w k → Step b (report l w) (reported (judged.Misfit k)) (dropped b l)
-  report_weak : (l : ℕ) (w : Brought) (it need : ℤ) → l < length b.table.leases → IsTooWeak b (node_of b l) w it need → Step b (report l w) (reported (judged.Weak it need)) (dropped b l)
-  report_taken : (l : ℕ) (w : Brought) → l < length b.table.leases → MayBeTaken b (node_of b l) w → Step b (report l w) (reported judged.Taken) (taken b (Some l) (node_of b l) w)
-  own_stale : (node : ℕ) (r : Report) → ¬ IsOpen b.tree.nodes node → Step b (own node r) (reported judged.Stale) b
-  own_spent : (node : ℕ) (r : Report) → IsSpent b node → Step b (own node r) (reported judged.Spent) b
-  own_misfit : (node : ℕ) (r : Report) (k : ℕ) → IsUnfit b node (Plain r) k → Step b (own node r) (reported (judged.Misfit k)) b
-  own_weak : (node : ℕ) (r : Report) (it need : ℤ) → IsTooWeak b node (Plain r) it need → Step b (own node r) (reported (judged.Weak it need)) b
-  own_taken : (node : ℕ) (r : Report) → MayBeTaken b node (Plain r) → Step b (own node r) (reported judged.Taken) (taken b None node (Plain r))
-  gone_idle : (g : ℕ) → of_grunt b.table.leases g ≡ None → Step b (gone g) (went None) b
-  gone_lost : (g l : ℕ) → of_grunt b.table.leases g ≡ Some l → Step b (gone g) (went (Some l)) (lost b l)
-  expire_unknown : (l : ℕ) → length b.table.leases ≤ l → Step b (expire l) (expired ends.Unknown) b
-  expire_ended : (l : ℕ) → l < length b.table.leases → is_held (lease_at b.table.leases l) ≡ false → Step b (expire l) (expired ends.NotHeld) b
-  expire_lost : (l : ℕ) → l < length b.table.leases → is_held (lease_at b.table.leases l) ≡ true → Step b (expire l) (expired ends.Expired) (lost b l)
-  offer_other_size : (t : List ℕ) → length t ≢ b.instance.n → Step b (offer t) (offered tours.OtherSize) b
-  offer_off_fixed : (t : List ℕ) (u v : ℕ) → length t ≡ b.instance.n → IsFirstOff (steps t) b.instance.fixed u v → Step b (offer t) (offered (tours.OffFixed u v)) b
-  offer_not_shorter : (t : List ℕ) → IsTourOf b.instance t → best_length b ≤ length_in b.instance t → Step b (offer t) (offered (tours.NotShorter (best_length b))) b
-  offer_better : (t : List ℕ) → IsTourOf b.instance t → length_in b.instance t < best_length b → Step b (offer t) (offered tours.Better) (with_best b t)
+  ask_done : (g : ℕ) → count_open b ≡ 0 → Step b (event.Ask g) (heard.Asked told.Done) (released b g)
+  ask_spent : (g : ℕ) → 0 < count_open b → b.settled ≡ b.budget → Step b (event.Ask g) (heard.Asked told.Spent) (released b g)
+  ask_home : (g : ℕ) → 0 < count_open b → b.settled < b.budget → 256 ≤ count_lost (released b g) → Step b (event.Ask g) (heard.Asked told.Home) (released b g)
+  ask_not_yet : (g : ℕ) → IsAtWork (released b g) → AllIsLent (released b g) → Step b (event.Ask g) (heard.Asked told.NotYet) (released b g)
+  ask_leased : (g node : ℕ) → IsNext (released b g) node → Step b (event.Ask g) (heard.Asked (told.Leased (length b.table.leases) node (best_length b))) (granted (released b g) g node)
+  report_unknown : (l : ℕ) (w : Brought) → length b.table.leases ≤ l → Step b (event.Report l w) (heard.Reported judged.Unknown) b
+  report_stale : (l : ℕ) (w : Brought) → l < length b.table.leases → ¬ IsOpen b.tree.nodes (node_of b l) → Step b (event.Report l w) (heard.Reported judged.Stale) b
+  report_spent : (l : ℕ) (w : Brought) → l < length b.table.leases → IsSpent b (node_of b l) → Step b (event.Report l w) (heard.Reported judged.Spent) (dropped b l)
+  report_misfit : (l : ℕ) (w : Brought) (k : ℕ) → l < length b.table.leases → IsUnfit b (node_of b l) w k → Step b (event.Report l w) (heard.Reported (judged.Misfit k)) (dropped b l)
+  report_weak : (l : ℕ) (w : Brought) (it need : ℤ) → l < length b.table.leases → IsTooWeak b (node_of b l) w it need → Step b (event.Report l w) (heard.Reported (judged.Weak it need)) (dropped b l)
+  report_taken : (l : ℕ) (w : Brought) → l < length b.table.leases → MayBeTaken b (node_of b l) w → Step b (event.Report l w) (heard.Reported judged.Taken) (taken b (Some l) (node_of b l) w)
+  own_stale : (node : ℕ) (r : Report) → ¬ IsOpen b.tree.nodes node → Step b (event.Own node r) (heard.Reported judged.Stale) b
+  own_spent : (node : ℕ) (r : Report) → IsSpent b node → Step b (event.Own node r) (heard.Reported judged.Spent) b
+  own_misfit : (node : ℕ) (r : Report) (k : ℕ) → IsUnfit b node (Plain r) k → Step b (event.Own node r) (heard.Reported (judged.Misfit k)) b
+  own_weak : (node : ℕ) (r : Report) (it need : ℤ) → IsTooWeak b node (Plain r) it need → Step b (event.Own node r) (heard.Reported (judged.Weak it need)) b
+  own_taken : (node : ℕ) (r : Report) → MayBeTaken b node (Plain r) → Step b (event.Own node r) (heard.Reported judged.Taken) (taken b None node (Plain r))
+  gone_idle : (g : ℕ) → of_grunt b.table.leases g ≡ None → Step b (event.Gone g) (heard.Went None) b
+  gone_lost : (g l : ℕ) → of_grunt b.table.leases g ≡ Some l → Step b (event.Gone g) (heard.Went (Some l)) (lost b l)
+  expire_unknown : (l : ℕ) → length b.table.leases ≤ l → Step b (event.Expire l) (heard.Expired ends.Unknown) b
+  expire_ended : (l : ℕ) → l < length b.table.leases → is_held (lease_at b.table.leases l) ≡ false → Step b (event.Expire l) (heard.Expired ends.NotHeld) b
+  expire_lost : (l : ℕ) → l < length b.table.leases → is_held (lease_at b.table.leases l) ≡ true → Step b (event.Expire l) (heard.Expired ends.Expired) (lost b l)
+  offer_other_size : (t : List ℕ) → length t ≢ b.instance.n → Step b (event.Offer t) (heard.Offered tours.OtherSize) b
+  offer_off_fixed : (t : List ℕ) (u v : ℕ) → length t ≡ b.instance.n → IsFirstOff (steps t) b.instance.fixed u v → Step b (event.Offer t) (heard.Offered (tours.OffFixed u v)) b
+  offer_not_shorter : (t : List ℕ) → IsTourOf b.instance t → best_length b ≤ length_in b.instance t → Step b (event.Offer t) (heard.Offered (tours.NotShorter (best_length b))) b
+  offer_better : (t : List ℕ) → IsTourOf b.instance t → length_in b.instance t < best_length b → Step b (event.Offer t) (heard.Offered tours.Better) (with_best b t)
 
 -- events in turn
 pub data Run : Book → List Event → List Reply → Book → Type 0 where

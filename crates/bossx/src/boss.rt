@@ -8,11 +8,12 @@ ghost use Rattle.treebook.specs.Tables.{tree_of};
 ghost use Rattle.leasebook.specs.Leases.{is_held, lease_at, of_grunt};
 ghost use Rattle.bossx.specs.Books.{best_length, level, path_in, node_of, content_of, key_at, is_split, lost, released, dropped, granted, taken, with_best};
 ghost use Rattle.bossx.specs.Judging.{IsUndecided, IsNewSet, BranchFits, IsBranchMisfit, BroughtFits, IsMisfitOf, IsAtHome, IsReady, MayBeTaken, IsJudged};
-ghost use Rattle.bossx.specs.Steps.{ask, report as report_of, own, gone, expire, offer, asked, reported, went, expired, offered, Step, IsNext, IsInFront};
+ghost use Rattle.bossx.specs.Steps.{Step, IsNext, IsInFront};
 ghost use Rattle.bossx.specs.Answers.{IsAnswer, IsBoundOf, AreOpenBelow, reported_after, own_after};
 ghost use Rattle.bossx.specs.Kept.{IsBook, IsStart};
 
 use crate::brought::Brought;
+use crate::events::{Event, Reply};
 use crate::parts::{
     are_same, close_out, content_of, fate_by, free_nodes, grow, is_open, is_split, key_from,
     replace, zero_keys,
@@ -91,7 +92,8 @@ impl Boss {
         requires few { length tree.nodes + 2 * budget ≤ 1048576 }
         requires some_grunts { 1 ≤ grunts }
         requires few_grunts { grunts ≤ 64 }
-        ensures { IfOk result (IsStart instance.now tree tour budget grunts gap) }
+        ensures start { IfOk result (IsStart instance.now tree tour budget grunts gap) }
+        ensures book { IfOk result IsBook }
     {
         let _few = tree.nodes();
         tree.reserve(alloc, 2 * budget + 1)?;
@@ -130,7 +132,8 @@ impl Boss {
         requires entries { 3 * budget + 512 ≤ table.entry_room }
         requires names { length tree.nodes + 2 * budget ≤ table.nodes }
         requires grunts { grunts < table.grunts }
-        ensures { IsStart instance tree best budget grunts gap result }
+        ensures start { IsStart instance tree best budget grunts gap result }
+        ensures book { IsBook result }
     {
         let opening = Snapshot::of(&tree);
         let first_nodes = tree.nodes();
@@ -164,7 +167,7 @@ impl Boss {
     pub fn ask(&mut self, grunt: u32) -> Asked
         requires from { 1 ≤ grunt }
         requires to { grunt ≤ self.old.grunts }
-        ensures { Step self.old (ask grunt) (asked result) self.new }
+        ensures { Step self.old (Event.Ask grunt) (Reply.Asked result) self.new }
     {
         self.let_go(grunt);
         self.answer(grunt)
@@ -172,14 +175,14 @@ impl Boss {
 
     /// A report on the node of a lease, whoever sends it.
     pub fn report(&mut self, lease: u32, report: Report) -> Reported
-        ensures { Step self.old (report_of lease (Brought.Plain report)) (reported result) self.new }
+        ensures { Step self.old (Event.Report lease (Brought.Plain report)) (Reply.Reported result) self.new }
     {
         self.bring(lease, Brought::Plain(report))
     }
 
     /// A report of a split, with the key that both children get. Keys are trusted with nothing but the order of lending.
     pub fn report_hinted(&mut self, lease: u32, branch: Branch, hint: i64) -> Reported
-        ensures { Step self.old (report_of lease (Brought.Hinted branch hint)) (reported result) self.new }
+        ensures { Step self.old (Event.Report lease (Brought.Hinted branch hint)) (Reply.Reported result) self.new }
     {
         self.bring(lease, Brought::Hinted(branch, hint))
     }
@@ -187,15 +190,15 @@ impl Boss {
     /// A report of a closing whose bound is known. It is compared and not summed; that it was priced for this instance, and on the
     /// node's path, is looked at.
     pub fn report_priced(&mut self, lease: u32, priced: Priced) -> Reported
-        ensures { Step self.old (report_of lease (Brought.Weighed priced)) (reported result) self.new }
+        ensures { Step self.old (Event.Report lease (Brought.Weighed priced)) (Reply.Reported result) self.new }
     {
         self.bring(lease, Brought::Weighed(priced))
     }
 
-    /// A report of the boss itself on a node, without a lease. A lease that holds the node is lost where the report is taken.
+    /// A report of the boss itself on a node, without a lease. A lease that holds the node is lost where the report is taken. A
+    /// number of no node is that of none that is open.
     pub fn own(&mut self, node: u32, report: Report) -> Reported
-        requires { node < length self.old.tree.nodes }
-        ensures { Step self.old (own node report) (reported result) self.new }
+        ensures { Step self.old (Event.Own node report) (Reply.Reported result) self.new }
     {
         let brought = Brought::Plain(report);
         let reply = self.judge(node, &brought);
@@ -205,14 +208,14 @@ impl Boss {
 
     /// A grunt is gone: the lease that it held is lost, and is told.
     pub fn gone(&mut self, grunt: u32) -> Option<u32>
-        ensures { Step self.old (gone grunt) (went result) self.new }
+        ensures { Step self.old (Event.Gone grunt) (Reply.Went result) self.new }
     {
         self.let_go(grunt)
     }
 
     /// The time of a lease is over: it is lost, if it is held.
     pub fn expire(&mut self, lease: u32) -> Expiry
-        ensures { Step self.old (expire lease) (expired result) self.new }
+        ensures { Step self.old (Event.Expire lease) (Reply.Expired result) self.new }
     {
         if lease >= self.table.grants() {
             return Expiry::Unknown;
@@ -226,7 +229,7 @@ impl Boss {
 
     /// A tour is offered: it is the best one from now on, where it is shorter.
     pub fn offer(&mut self, tour: &Tour) -> Offered
-        ensures { Step self.old (offer tour.now) (offered result) self.new }
+        ensures { Step self.old (Event.Offer tour.now) (Reply.Offered result) self.new }
     {
         if tour.n() != self.instance.n() {
             return Offered::OtherSize;
@@ -435,8 +438,8 @@ impl Boss {
     }
 
     /// What is brought for the node of a lease.
-    fn bring(&mut self, lease: u32, brought: Brought) -> Reported
-        ensures { Step self.old (report_of lease brought) (reported result) self.new }
+    pub(crate) fn bring(&mut self, lease: u32, brought: Brought) -> Reported
+        ensures { Step self.old (Event.Report lease brought) (Reply.Reported result) self.new }
     {
         if lease >= self.table.grants() {
             return Reported::Unknown;
@@ -480,7 +483,6 @@ impl Boss {
 
     /// What is answered to what is brought for a node. It changes nothing.
     fn judge(&self, node: u32, brought: &Brought) -> Reported
-        requires { node < length self.now.tree.nodes }
         ensures { IsJudged self.now node brought.now result }
     {
         if !is_open(&self.tree, node) {

@@ -3,11 +3,14 @@
 //!
 //! - [`Boss`] has the book. [`Boss::start`] takes all its room; no later call takes memory, so none can fail while a node is lent.
 //! - [`Asked`], [`Reported`], [`Expiry`], [`Offered`], [`Front`] are its answers, [`Brought`] is what a report brings.
+//! - [`Event`] and [`Reply`] are calls and answers as values: [`Boss::play`] does a list of events.
 //! - [`books_are_kept`], [`events_are_charged`], [`events_have_no_choice`]: the laws over all lists of events, with any data.
+//! - [`priced_closings_are_reports`], [`sure_reports_are_taken`]: the laws for those who price, and for those who work.
 #![tactic(auto)]
 
 mod boss;
 mod brought;
+mod events;
 mod laws;
 mod parts;
 mod replies;
@@ -15,7 +18,11 @@ mod tours;
 
 pub use boss::Boss;
 pub use brought::Brought;
-pub use laws::{books_are_kept, events_are_charged, events_have_no_choice};
+pub use events::{Event, Reply};
+pub use laws::{
+    books_are_kept, events_are_charged, events_have_no_choice, priced_closings_are_reports,
+    sure_reports_are_taken,
+};
 pub use replies::{Asked, Expiry, Front, Offered, Reported};
 
 #[cfg(test)]

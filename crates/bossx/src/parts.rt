@@ -17,12 +17,11 @@ use tournament::Tournament;
 use treebook::{State, Tree};
 use tspinst::Instance;
 
-/// Whether a node is open.
+/// Whether a number is that of a node that is open.
 pub(crate) fn is_open(tree: &Tree, node: u32) -> bool
-    requires { node < length tree.now.nodes }
     ensures { IsTrue result ↔ IsOpen tree.now.nodes node }
 {
-    matches!(tree.state(node), State::Open)
+    node < tree.nodes() && matches!(tree.state(node), State::Open)
 }
 
 /// Whether two instances have the same cities, distances and fixed pairs.

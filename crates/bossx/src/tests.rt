@@ -1,108 +1,38 @@
-//! Worked books.
-ghost use Rattle.std.specs.Prelude.{◌≡◌, ◌≤◌, ◌<◌, length};
+//! Worked books: tables of events, each with its reply.
 
-use crate::tours::first_off;
-use crate::{Asked, Boss, Expiry, Front, Offered, Reported};
-use branchx::{Branch, Path};
-use cyc::Tour;
-use distx::{Kind, Point};
-use pricer::{Closing, Priced, Pricing, Report};
+mod acts;
+mod drawn;
+mod plain;
+
+use self::acts::{Act, boss, first_other, leased, square, square_boss, tour};
+use crate::{Asked, Boss, Expiry, Front, Offered, Reply, Reported};
 use std::alloc::Global;
-use std::sync::Arc;
 use std::test::Fail;
-use treebook::Tree;
-use tspinst::{Instance, from_points};
 
-fn square(alloc: Global) -> Result<Instance, Fail> {
-    let corners = [
-        Point::new(0, 0),
-        Point::new(0, 10),
-        Point::new(10, 10),
-        Point::new(10, 0),
-    ];
-    Ok(from_points(alloc, Kind::Euc, &corners)?)
-}
+const TAKEN: Reply = Reply::Reported(Reported::Taken);
 
-fn triangle(alloc: Global) -> Result<Instance, Fail> {
-    let points = [Point::new(0, 0), Point::new(3, 0), Point::new(0, 4)];
-    Ok(from_points(alloc, Kind::Euc, &points)?)
-}
-
-/// The tour of these cities.
-fn tour(alloc: Global, cities: &[u32]) -> Result<Tour, Fail> {
-    if cities.len() < 3 || cities.len() > 2000 {
-        return Err("no tour".into());
-    }
-    Ok(Tour::new(alloc, cities.len() as u32, Vec::from_slice(alloc, cities)?)?)
-}
-
-/// A boss over the tree of one open node.
-fn boss(alloc: Global, instance: &Instance, best: Tour, budget: u32, gap: u64) -> Result<Boss, Fail>
-    requires { budget ≤ 1000 }
-{
-    if best.n() != instance.n() || first_off(best.cities(), instance.fixed()).is_some() {
-        return Err("no tour of the instance".into());
-    }
-    let tree = Tree::with_fixed(alloc, instance.n(), instance.fixed())?;
-    Ok(Boss::start(alloc, instance, tree, best, budget, 2, gap)?)
-}
-
-/// A boss over the square, with its shortest tour.
-fn square_boss(alloc: Global, budget: u32, gap: u64) -> Result<Boss, Fail>
-    requires { budget ≤ 1000 }
-{
-    let instance = square(alloc)?;
-    let best = tour(alloc, &[0, 1, 2, 3])?;
-    boss(alloc, &instance, best, budget, gap)
-}
-
-/// The closing of so many equal duals of cities.
-fn closing(alloc: Global, count: usize, dual: i64) -> Result<Closing, Fail> {
-    let city = vec![in alloc; dual; count]?;
-    Ok(Closing::new(city, Vec::new(alloc), Vec::new(alloc)))
-}
-
-fn priced(alloc: Global, instance: Instance, count: usize, dual: i64) -> Result<Priced, Fail> {
-    let path = Path::new(alloc, instance.n());
-    let shared = Arc::new(alloc, instance)?;
-    match Priced::new(shared, path, closing(alloc, count, dual)?) {
-        Pricing::Priced(priced) => Ok(priced),
-        Pricing::Misfit(_) => Err("a misfit".into()),
-    }
-}
-
-fn split(u: u32, v: u32) -> Report {
-    Report::Split(Branch::Edge(u, v))
+/// Leases that are granted, held and lost.
+fn counts(boss: &Boss) -> (u32, u32, u32) {
+    let leases = boss.leases();
+    (leases.grants(), leases.held(), leases.lost())
 }
 
 #[test]
 fn the_second_copy_of_a_report_is_stale(rt: HostRuntime) -> Result<(), Fail> {
-    let mut boss = square_boss(rt.alloc(), 1, 0)?;
-    assert_eq!(rt;
-        boss.ask(1),
-        Asked::Leased {
-            lease: 0,
-            node: 0,
-            best: 40
-        }
-    );
-    assert_eq!(rt; boss.ask(2), Asked::NotYet);
-    assert_eq!(rt; boss.gone(1), Some(0));
-    assert_eq!(rt;
-        boss.ask(2),
-        Asked::Leased {
-            lease: 1,
-            node: 0,
-            best: 40
-        }
-    );
-    assert_eq!(rt; boss.report(0, split(0, 2)), Reported::Taken);
-    assert_eq!(rt; boss.report(1, split(0, 2)), Reported::Stale);
-    assert_eq!(rt; boss.report(7, split(0, 2)), Reported::Unknown);
-    assert_eq!(rt; boss.ask(1), Asked::Spent);
-    assert_eq!(rt; boss.front(), Front::Spent);
-    assert_eq!(rt; boss.leases().lost(), 2);
-    assert_eq!(rt; boss.settled(), 1);
+    let alloc = rt.alloc();
+    let mut boss = square_boss(alloc, 1, 0)?;
+    let table = [
+        (Act::Ask(1), leased(0, 0)),
+        (Act::Ask(2), Reply::Asked(Asked::NotYet)),
+        (Act::Gone(1), Reply::Went(Some(0))),
+        (Act::Ask(2), leased(1, 0)),
+        (Act::Split(0, 0, 2), TAKEN),
+        (Act::Split(1, 0, 2), Reply::Reported(Reported::Stale)),
+        (Act::Split(7, 0, 2), Reply::Reported(Reported::Unknown)),
+        (Act::Ask(1), Reply::Asked(Asked::Spent)),
+    ];
+    assert_eq!(rt; first_other(alloc, &mut boss, &table)?, None);
+    assert_eq!(rt; (boss.front(), counts(&boss)), (Front::Spent, (2, 0, 2)));
     Ok(())
 }
 
@@ -110,29 +40,24 @@ fn the_second_copy_of_a_report_is_stale(rt: HostRuntime) -> Result<(), Fail> {
 fn a_weak_closing_loses_its_lease(rt: HostRuntime) -> Result<(), Fail> {
     let alloc = rt.alloc();
     let mut boss = square_boss(alloc, 1, 0)?;
-    assert_eq!(rt;
-        boss.ask(1),
-        Asked::Leased {
-            lease: 0,
-            node: 0,
-            best: 40
-        }
-    );
-    assert_eq!(rt;
-        boss.report(0, Report::Closed(closing(alloc, 4, 5_111_808)?)),
-        Reported::Weak {
-            bound: 40_894_464,
-            needed: 40_894_464
-        }
-    );
-    assert_eq!(rt; boss.leases().lost(), 1);
-    assert_eq!(rt; boss.expire(0), Expiry::NotHeld);
-    assert_eq!(rt; boss.expire(1), Expiry::Unknown);
-    assert_eq!(rt;
-        boss.report(0, Report::Closed(closing(alloc, 3, 5_111_808)?)),
-        Reported::Misfit(1)
-    );
-    assert_eq!(rt; boss.front(), Front::Node(0));
+    let weak = Reported::Weak {
+        bound: 40_894_464,
+        needed: 40_894_464,
+    };
+    let table = [
+        (Act::Ask(1), leased(0, 0)),
+        (Act::Close(0, 4, 5_111_808), Reply::Reported(weak)),
+        (Act::Expire(0), Reply::Expired(Expiry::NotHeld)),
+        (Act::Expire(1), Reply::Expired(Expiry::Unknown)),
+        (Act::Ask(2), leased(1, 0)),
+        (
+            Act::Close(1, 3, 5_111_808),
+            Reply::Reported(Reported::Misfit(1)),
+        ),
+        (Act::Close(1, 4, 5_111_809), TAKEN),
+    ];
+    assert_eq!(rt; first_other(alloc, &mut boss, &table)?, None);
+    assert_eq!(rt; (boss.front(), counts(&boss)), (Front::Done, (2, 0, 2)));
     Ok(())
 }
 
@@ -140,29 +65,19 @@ fn a_weak_closing_loses_its_lease(rt: HostRuntime) -> Result<(), Fail> {
 fn a_closing_priced_elsewhere_is_foreign(rt: HostRuntime) -> Result<(), Fail> {
     let alloc = rt.alloc();
     let mut boss = square_boss(alloc, 1, 0)?;
-    assert_eq!(rt;
-        boss.ask(1),
-        Asked::Leased {
-            lease: 0,
-            node: 0,
-            best: 40
-        }
-    );
-    let foreign = priced(alloc, triangle(alloc)?, 3, 0)?;
-    assert_eq!(rt; boss.report_priced(0, foreign), Reported::Misfit(7));
-    assert_eq!(rt; boss.leases().lost(), 1);
-    assert_eq!(rt;
-        boss.ask(1),
-        Asked::Leased {
-            lease: 1,
-            node: 0,
-            best: 40
-        }
-    );
-    let good = priced(alloc, square(alloc)?, 4, 5_242_880)?;
-    assert_eq!(rt; boss.report_priced(1, good), Reported::Taken);
-    assert_eq!(rt; boss.ask(1), Asked::Done);
-    assert_eq!(rt; boss.front(), Front::Done);
+    let table = [
+        (Act::Ask(1), leased(0, 0)),
+        (
+            Act::CloseTriangle(0, 0),
+            Reply::Reported(Reported::Misfit(7)),
+        ),
+        (Act::Gone(1), Reply::Went(None)),
+        (Act::Ask(1), leased(1, 0)),
+        (Act::CloseSquare(1, 5_242_880), TAKEN),
+        (Act::Ask(1), Reply::Asked(Asked::Done)),
+    ];
+    assert_eq!(rt; first_other(alloc, &mut boss, &table)?, None);
+    assert_eq!(rt; (boss.front(), counts(&boss)), (Front::Done, (2, 0, 1)));
     Ok(())
 }
 
@@ -170,59 +85,46 @@ fn a_closing_priced_elsewhere_is_foreign(rt: HostRuntime) -> Result<(), Fail> {
 fn the_least_key_is_lent_first(rt: HostRuntime) -> Result<(), Fail> {
     let alloc = rt.alloc();
     let mut boss = square_boss(alloc, 5, 0)?;
-    assert_eq!(rt;
-        boss.ask(1),
-        Asked::Leased {
-            lease: 0,
-            node: 0,
-            best: 40
-        }
-    );
-    assert_eq!(rt;
-        boss.report_hinted(0, Branch::Edge(0, 2), 7),
-        Reported::Taken
-    );
-    assert_eq!(rt;
-        boss.ask(1),
-        Asked::Leased {
-            lease: 1,
-            node: 1,
-            best: 40
-        }
-    );
-    assert_eq!(rt;
-        boss.report_hinted(1, Branch::Edge(0, 1), 3),
-        Reported::Taken
-    );
-    assert_eq!(rt;
-        boss.ask(1),
-        Asked::Leased {
-            lease: 2,
-            node: 3,
-            best: 40
-        }
-    );
-    assert_eq!(rt; boss.expire(2), Expiry::Expired);
-    assert_eq!(rt; boss.own(3, split(0, 2)), Reported::Misfit(5));
-    assert_eq!(rt; boss.own(0, split(1, 3)), Reported::Stale);
+    let table = [
+        (Act::Ask(1), leased(0, 0)),
+        (Act::Hint(0, 0, 2, 7), TAKEN),
+        (Act::Ask(1), leased(1, 1)),
+        (Act::Hint(1, 0, 1, 3), TAKEN),
+        (Act::Ask(1), leased(2, 3)),
+        (Act::Expire(2), Reply::Expired(Expiry::Expired)),
+        (Act::Own(3, 0, 2), Reply::Reported(Reported::Misfit(5))),
+        (Act::Own(0, 1, 3), Reply::Reported(Reported::Stale)),
+        (Act::Own(9, 1, 3), Reply::Reported(Reported::Stale)),
+        (Act::Own(3, 1, 3), TAKEN),
+    ];
+    assert_eq!(rt; first_other(alloc, &mut boss, &table)?, None);
+    assert_eq!(rt; (boss.settled(), counts(&boss)), (3, (3, 0, 1)));
     Ok(())
 }
 
 #[test]
 fn tours_are_judged_in_order(rt: HostRuntime) -> Result<(), Fail> {
     let alloc = rt.alloc();
-    let instance = square(alloc)?.fix(alloc, &[(0, 2)])?;
-    let best = tour(alloc, &[0, 2, 1, 3])?;
-    let mut fixed = boss(alloc, &instance, best, 1, 0)?;
     let around = tour(alloc, &[0, 1, 2, 3])?;
-    assert_eq!(rt; fixed.offer(&around), Offered::OffFixed(0, 2));
-    assert_eq!(rt; fixed.offer(&tour(alloc, &[0, 1, 2])?), Offered::OtherSize);
     let crossed = tour(alloc, &[0, 2, 1, 3])?;
-    let mut free = boss(alloc, &square(alloc)?, crossed, 1, 0)?;
-    assert_eq!(rt; free.best_length(), 48);
+    let mut free = boss(alloc, &square(alloc)?, crossed, 1, 2, 0)?;
     assert_eq!(rt; free.offer(&around), Offered::Better);
     assert_eq!(rt; free.offer(&around), Offered::NotShorter(40));
-    assert_eq!(rt; free.first_length(), 48);
+    assert_eq!(rt; (free.first_length(), free.best_length()), (48, 40));
+    Ok(())
+}
+
+#[test]
+fn a_tour_without_a_fixed_pair_is_off(rt: HostRuntime) -> Result<(), Fail> {
+    let alloc = rt.alloc();
+    let instance = square(alloc)?.fix(alloc, &[(0, 2)])?;
+    let best = tour(alloc, &[0, 2, 1, 3])?;
+    let mut fixed = boss(alloc, &instance, best, 1, 2, 0)?;
+    assert_eq!(rt;
+        fixed.offer(&tour(alloc, &[0, 1, 2, 3])?),
+        Offered::OffFixed(0, 2)
+    );
+    assert_eq!(rt; fixed.offer(&tour(alloc, &[0, 1, 2])?), Offered::OtherSize);
     Ok(())
 }
 
@@ -230,19 +132,34 @@ fn tours_are_judged_in_order(rt: HostRuntime) -> Result<(), Fail> {
 fn a_gap_lowers_what_is_needed(rt: HostRuntime) -> Result<(), Fail> {
     let alloc = rt.alloc();
     let mut boss = square_boss(alloc, 1, 40)?;
-    assert_eq!(rt; boss.gap(), 40);
-    assert_eq!(rt;
-        boss.own(0, Report::Closed(closing(alloc, 4, -1_000_000)?)),
-        Reported::Weak {
-            bound: -8_000_000,
-            needed: -1_048_576
-        }
-    );
-    assert_eq!(rt;
-        boss.own(0, Report::Closed(closing(alloc, 4, 0)?)),
-        Reported::Taken
-    );
-    assert_eq!(rt; boss.front(), Front::Done);
+    let weak = Reported::Weak {
+        bound: -8_000_000,
+        needed: -1_048_576,
+    };
+    let table = [
+        (Act::Ask(1), leased(0, 0)),
+        (Act::Close(0, 4, -1_000_000), Reply::Reported(weak)),
+        (Act::Close(0, 4, 0), TAKEN),
+    ];
+    assert_eq!(rt; first_other(alloc, &mut boss, &table)?, None);
+    assert_eq!(rt; (boss.front(), boss.gap()), (Front::Done, 40));
+    Ok(())
+}
+
+#[test]
+fn a_gap_is_taken_off_once(rt: HostRuntime) -> Result<(), Fail> {
+    let alloc = rt.alloc();
+    let mut boss = square_boss(alloc, 1, 20)?;
+    let weak = Reported::Weak {
+        bound: 8_388_608,
+        needed: 19_922_944,
+    };
+    let table = [
+        (Act::Ask(1), leased(0, 0)),
+        (Act::Close(0, 4, 1_048_576), Reply::Reported(weak)),
+        (Act::Close(0, 4, 2_621_440), TAKEN),
+    ];
+    assert_eq!(rt; first_other(alloc, &mut boss, &table)?, None);
     Ok(())
 }
 
@@ -252,12 +169,41 @@ fn a_snapshot_is_what_the_boss_was_started_with(rt: HostRuntime) -> Result<(), F
     let boss = square_boss(alloc, 1, 0)?;
     let (best, tree) = boss.snapshot();
     assert_eq!(rt; best.cities(), [0, 1, 2, 3].as_slice());
-    assert_eq!(rt; tree.nodes(), 1);
-    if tree.nodes() > 0 {
-        assert!(rt; boss.path(alloc, 0)?.conditions().is_empty());
-    }
-    assert_eq!(rt; (boss.budget(), boss.grunts()), (1, 2));
+    assert_eq!(rt; (tree.nodes(), tree.open_nodes()), (1, 1));
+    assert!(rt; tree.nodes() > 0 && boss.path(alloc, 0)?.conditions().is_empty());
+    assert_eq!(rt;
+        (boss.budget(), boss.grunts(), boss.instance().n()),
+        (1, 2, 4)
+    );
     assert_eq!(rt; (boss.first_nodes(), boss.first_settled()), (1, 0));
-    assert_eq!(rt; boss.instance().n(), 4);
+    Ok(())
+}
+
+/// Grunt 2 is lent the root and is gone, so many times. Whether each time that was the next lease.
+fn loses_leases(alloc: Global, boss: &mut Boss, times: u32) -> Result<bool, Fail> {
+    for lease in 0..times {
+        let table = [
+            (Act::Ask(2), leased(lease, 0)),
+            (Act::Gone(2), Reply::Went(Some(lease))),
+        ];
+        if first_other(alloc, boss, &table)?.is_some() {
+            return Ok(false);
+        }
+    }
+    Ok(true)
+}
+
+#[test]
+fn grunts_go_home_after_256_lost_leases(rt: HostRuntime) -> Result<(), Fail> {
+    let alloc = rt.alloc();
+    let mut boss = square_boss(alloc, 1, 0)?;
+    assert!(rt; loses_leases(alloc, &mut boss, 256)?);
+    let table = [
+        (Act::Ask(1), Reply::Asked(Asked::Home)),
+        (Act::Gone(1), Reply::Went(None)),
+        (Act::Split(255, 0, 2), TAKEN),
+    ];
+    assert_eq!(rt; first_other(alloc, &mut boss, &table)?, None);
+    assert_eq!(rt; counts(&boss), (256, 0, 256));
     Ok(())
 }
