@@ -66,8 +66,11 @@ fn main(rt: HostRuntime) -> Result<()> {
         bail!("one word");
     };
     let n = word.as_str().parse::<u32>().map_err(|_| anyhow!("cities"))?;
+    if n < 20 || n > 2000 {
+        bail!("size");
+    }
     let x = drawn(alloc, n)?;
-    let mut pool = CutPool::new(alloc, x.n());
+    let mut pool = CutPool::new(alloc, n);
     let mut state: u64 = 9;
     let from = rt.thread_cpu_time()?;
     for _ in 0..65_536 {
