@@ -14,7 +14,7 @@ use Rattle.clap.specs.Walk.{Held, Outcome, Row, Rule, Step, Text, Waiting, Walk,
 use Rattle.clap.specs.Simple.{Shape}
 use Rattle.clap.specs.Faults.{action_fault, bundle_fault, bundle_step_fault, check_fault, default_fault, defaults_fault, flag_word_fault, flags_fault, given_default_fault, level_fault, long_fault, option_fault, other_fault, positional_fault, react_fault, repeat_fault, set_fault, settle_fault, short_fault, step_fault, stray_fault, turn_fault, use_fault, values_fault, walk_fault, word_fault}
 use Rattle.clap.specs.declared.error.kind.ErrorKind.TheVariants as kind
-use Rattle.clap.specs.declared.builder.action.ArgAction.TheVariants.{Help, Set}
+use Rattle.clap.specs.declared.builder.action.ArgAction.TheVariants.{Help, Set, SetTrue}
 use Rattle.clap.specs.declared.builder.value_parser.ValueParser.{ValueParser}
 use Rattle.clap.specs.declared.builder.value_parser.Reading.{Reading}
 use Rattle.clap.specs.declared.parser.matches.ValueSource.{ValueSource}
@@ -46,10 +46,17 @@ pub record TakesOne (a : Rule) : Type 0 where
   pub least : (unwrap_or_range a.range).start_inclusive ≡ 1
   pub most : most_values a ≡ 1
 
--- an argument whose id is its own, that takes one value or asks for help
+-- the argument takes no value, and has one that stands for its use
+pub record IsSwitch (a : Rule) : Type 0 where
+  pub set : action_of a ≡ SetTrue
+  pub least : (unwrap_or_range a.range).start_inclusive ≡ 0
+  pub most : most_values a ≡ 0
+  pub some : 0 < length a.missing
+
+-- an argument whose id is its own, that takes one value, asks for help or is a switch
 pub record IsPlainRule (c : List Rule) (a : Rule) : Type 0 where
   pub own : arg_by_id c a.id ≡ Some a
-  pub kind : TakesOne a ⊎ (action_of a ≡ Help)
+  pub kind : TakesOne a ⊎ ((action_of a ≡ Help) ⊎ IsSwitch a)
 
 -- ---- one use
 
@@ -97,6 +104,9 @@ with_good c a how s values (r ∷ rs) own some pass good = go (bytes_eq r.id a.i
 one_value : (n : ℕ) → range_kinds 1 1 n ≡ [] → n ≡ 1
 one_value n e = grind (arith, nat_tests)
 
+no_value : (n : ℕ) → range_kinds 0 0 n ≡ [] → n ≡ 0
+no_value n e = grind (arith, nat_tests)
+
 pub used_good : (c : List Rule) (again : Bool) (a : Rule) (values : List Text) (rows : List Row) → IsPlainRule c a → use_fault again a values rows ≡ []
     → Each (IsGood c) rows → Each (IsGood c) (used a values rows)
 used_good c again a values rows rule free good = go rule.kind
@@ -112,14 +122,23 @@ used_good c again a values rows rule free good = go rule.kind
     set (v ∷ vs) one e = with_good c a (reading_by a) CommandLine (v ∷ vs) (without a.id rows) rule.own (omega arith)
         (then_free (repeat_fault again a.id rows) (values_fault a (v ∷ vs)) e) (without_good c a.id rows good)
 
-    go : TakesOne a ⊎ (action_of a ≡ Help) → Each (IsGood c) (used a values rows)
+    switch : (vs : List Text) → length vs ≡ 0 → 0 < length a.missing → set_fault again a (values_or_missing a vs) rows ≡ [] → Each (IsGood c) (with_values a.id (reading_by a) CommandLine (values_or_missing a vs) (without a.id rows))
+    switch [] none some e = with_good c a (reading_by a) CommandLine a.missing (without a.id rows) rule.own some
+        (then_free (repeat_fault again a.id rows) (values_fault a a.missing) e) (without_good c a.id rows good)
+    switch (v ∷ vs) none some e = absurd (omega (arith, none))
+
+    go : TakesOne a ⊎ ((action_of a ≡ Help) ⊎ IsSwitch a) → Each (IsGood c) (used a values rows)
     go (inl one) =
         let count : length values ≡ 1 = one_value (length values) (subst (λ n. range_kinds n 1 (length values) ≡ []) one.least (subst (λ n. range_kinds (unwrap_or_range a.range).start_inclusive n (length values) ≡ []) one.most range)) in
         let e : set_fault again a (values_or_missing a values) rows ≡ [] = subst (λ x. action_fault x again a (values_or_missing a values) rows ≡ []) one.set act in
         subst (λ x. Each (IsGood c) (used_as x a.id (reading_by a) (values_or_missing a values) rows)) (sym one.set) (set values count e)
-    go (inr help) =
+    go (inr (inl help)) =
         let e = subst (λ x. action_fault x again a (values_or_missing a values) rows ≡ []) help act in
         cc
+    go (inr (inr on)) =
+        let count : length values ≡ 0 = no_value (length values) (subst (λ n. range_kinds n 0 (length values) ≡ []) on.least (subst (λ n. range_kinds (unwrap_or_range a.range).start_inclusive n (length values) ≡ []) on.most range)) in
+        let e : set_fault again a (values_or_missing a values) rows ≡ [] = subst (λ x. action_fault x again a (values_or_missing a values) rows ≡ []) on.set act in
+        subst (λ x. Each (IsGood c) (used_as x a.id (reading_by a) (values_or_missing a values) rows)) (sym on.set) (switch values count on.some e)
 
 -- ---- one word
 

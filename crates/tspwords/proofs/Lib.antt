@@ -4,3 +4,4 @@ pub mod Given
 pub mod Taken
 pub mod Options
 pub mod Positionals
+pub mod Gaps

@@ -11,7 +11,7 @@ use Rattle.clap.proofs.OnLiterals.{clap_on_literals}
 use Rattle.tspwords.specs.Program.{IsTaken, command_word, rows_of_words, most_budget, most_seed}
 use Rattle.tspwords.specs.Laws.{IsPlain, BudgetsAndSeedsAreTaken}
 use Rattle.tspwords.proofs.Numbers.{in_unsigned}
-use Rattle.tspwords.proofs.PlainWords.{given, not_dashes, not_long, not_short, number_is_plain}
+use Rattle.tspwords.proofs.PlainWords.{given, default_resume_row, default_gap_row, not_dashes, not_long, not_short, number_is_plain}
 use Rattle.tspwords.proofs.Taken.{solve_built}
 
 -- what may go wrong after the walk
@@ -24,7 +24,7 @@ pub level_free : (s : Shape) (words : List Text) (w : Walk) → walk_fault s [] 
 level_free s words w walks ends free =
     subst (λ k. or_else k (end_fault s (walk s.rules [] nothing_held words).held) ≡ []) (sym walks) (subst (λ x. end_fault s x.held ≡ []) (sym ends) free)
 
-abbrev path_rows : Text → Text → Text → List Row
+abbrev pub path_rows : Text → Text → Text → List Row
 path_rows a b c = given (codes "instance") a ∷ given (codes "proof") b ∷ given (codes "restart") c ∷ []
 
 -- after the budget's word
@@ -96,10 +96,10 @@ unfolding clap_on_literals
 both_fault_free name a b c d e pa pb pc pd pe is_d is_e = ap (λ k. or_else k []) (both_level a b c d e pa pb pc pd pe is_d is_e)
 
 both_rows_are : (name a b c d e : Text) → IsPlain a → IsPlain b → IsPlain c → IsPlain d → IsPlain e
-    → rows_of_words (name ∷ codes "solve" ∷ a ∷ b ∷ c ∷ codes "--budget" ∷ d ∷ codes "--seed" ∷ e ∷ []) ≡ given (codes "instance") a ∷ given (codes "proof") b ∷ given (codes "restart") c ∷ given (codes "budget") d ∷ given (codes "seed") e ∷ []
+    → rows_of_words (name ∷ codes "solve" ∷ a ∷ b ∷ c ∷ codes "--budget" ∷ d ∷ codes "--seed" ∷ e ∷ []) ≡ given (codes "instance") a ∷ given (codes "proof") b ∷ given (codes "restart") c ∷ given (codes "budget") d ∷ given (codes "seed") e ∷ default_resume_row ∷ default_gap_row ∷ []
 unfolding clap_on_literals
 both_rows_are name a b c d e pa pb pc pd pe =
-    rw (not_dashes a pa, not_long a pa, not_short a pa, not_dashes b pb, not_long b pb, not_short b pb, not_dashes c pc, not_long c pc, not_short c pc, not_dashes d pd, not_long d pd, not_short d pd, not_dashes e pe, not_long e pe, not_short e pe) refl
+    ap (λ w. finished solve_built.rules w.held) (to_budget a b c d (codes "--seed" ∷ e ∷ []) pa pb pc pd ∙ to_seed a b c d e pe)
 
 named_both : (name a b c d e : Text) → command_word (name ∷ codes "solve" ∷ a ∷ b ∷ c ∷ codes "--budget" ∷ d ∷ codes "--seed" ∷ e ∷ []) ≡ codes "solve"
 unfolding clap_on_literals
@@ -116,4 +116,6 @@ both_taken name a b c d e pa pb pc fits_d fits_e =
       restart_is = rw rows refl;
       budget_is = rw rows refl;
       seed_is = rw rows refl;
+      resume_is = rw rows refl;
+      gap_is = rw rows refl;
     }

@@ -36,14 +36,20 @@ not_dashes (x ∷ xs) plain = rw (ne_eqb x 45 plain) refl
 abbrev pub given : Text → Text → Row
 given id word = record { id = id; values = word ∷ []; count = None; source = Some CommandLine; reading = reading.AsWritten }
 
-abbrev filled : Text → Text → Row
+abbrev pub filled : Text → Text → Row
 filled id word = record { id = id; values = word ∷ []; count = None; source = Some DefaultValue; reading = reading.AsWritten }
 
-abbrev default_budget_row : Row
+abbrev pub default_budget_row : Row
 default_budget_row = filled (codes "budget") (codes "65536")
 
-abbrev default_seed_row : Row
+abbrev pub default_seed_row : Row
 default_seed_row = filled (codes "seed") (codes "1")
+
+abbrev pub default_resume_row : Row
+default_resume_row = filled (codes "resume") (codes "false")
+
+abbrev pub default_gap_row : Row
+default_gap_row = filled (codes "gap") (codes "0")
 
 pub met_plain : (c : List Rule) (position : ℕ) (word : Text) (h : Held) → IsPlain word → word_met c [] false idle position word h ≡ (h, value)
 met_plain c position word h plain = rw (not_dashes word plain, not_long word plain, not_short word plain) refl
@@ -55,7 +61,7 @@ fault_free name a b c pa pb pc =
     rw (not_dashes a pa, not_long a pa, not_short a pa, not_dashes b pb, not_long b pb, not_short b pb, not_dashes c pc, not_long c pc, not_short c pc) refl
 
 rows_are : (name a b c : Text) → IsPlain a → IsPlain b → IsPlain c
-    → rows_of_words (name ∷ codes "solve" ∷ a ∷ b ∷ c ∷ []) ≡ given (codes "instance") a ∷ given (codes "proof") b ∷ given (codes "restart") c ∷ default_budget_row ∷ default_seed_row ∷ []
+    → rows_of_words (name ∷ codes "solve" ∷ a ∷ b ∷ c ∷ []) ≡ given (codes "instance") a ∷ given (codes "proof") b ∷ given (codes "restart") c ∷ default_budget_row ∷ default_seed_row ∷ default_resume_row ∷ default_gap_row ∷ []
 unfolding clap_on_literals
 rows_are name a b c pa pb pc =
     rw (not_dashes a pa, not_long a pa, not_short a pa, not_dashes b pb, not_long b pb, not_short b pb, not_dashes c pc, not_long c pc, not_short c pc) refl
@@ -73,6 +79,8 @@ paths_taken name a b c pa pb pc =
       restart_is = rw rows refl;
       budget_is = rw rows refl;
       seed_is = rw rows refl;
+      resume_is = rw rows refl;
+      gap_is = rw rows refl;
     }
 
 -- a number does not begin with a hyphen
@@ -91,7 +99,7 @@ budget_fault_free name a b c d pa pb pc pd is =
     (subst (λ (b : Bool). or_else (or_else (or_else (cond b [] (kind.ValueValidation ∷ [])) []) []) [] ≡ []) (sym is) refl)
 
 budget_rows_are : (name a b c d : Text) → IsPlain a → IsPlain b → IsPlain c → IsPlain d
-    → rows_of_words (name ∷ codes "solve" ∷ a ∷ b ∷ c ∷ codes "--budget" ∷ d ∷ []) ≡ given (codes "instance") a ∷ given (codes "proof") b ∷ given (codes "restart") c ∷ given (codes "budget") d ∷ default_seed_row ∷ []
+    → rows_of_words (name ∷ codes "solve" ∷ a ∷ b ∷ c ∷ codes "--budget" ∷ d ∷ []) ≡ given (codes "instance") a ∷ given (codes "proof") b ∷ given (codes "restart") c ∷ given (codes "budget") d ∷ default_seed_row ∷ default_resume_row ∷ default_gap_row ∷ []
 unfolding clap_on_literals
 budget_rows_are name a b c d pa pb pc pd =
     rw (not_dashes a pa, not_long a pa, not_short a pa, not_dashes b pb, not_long b pb, not_short b pb, not_dashes c pc, not_long c pc, not_short c pc, not_dashes d pd, not_long d pd, not_short d pd) refl
@@ -111,6 +119,8 @@ budgets_taken name a b c d pa pb pc fits =
       restart_is = rw rows refl;
       budget_is = rw rows refl;
       seed_is = rw rows refl;
+      resume_is = rw rows refl;
+      gap_is = rw rows refl;
     }
 
 -- `--seed S`
@@ -122,7 +132,7 @@ seed_fault_free name a b c d pa pb pc pd is =
     (subst (λ (b : Bool). or_else (or_else (or_else (cond b [] (kind.ValueValidation ∷ [])) []) []) [] ≡ []) (sym is) refl)
 
 seed_rows_are : (name a b c d : Text) → IsPlain a → IsPlain b → IsPlain c → IsPlain d
-    → rows_of_words (name ∷ codes "solve" ∷ a ∷ b ∷ c ∷ codes "--seed" ∷ d ∷ []) ≡ given (codes "instance") a ∷ given (codes "proof") b ∷ given (codes "restart") c ∷ given (codes "seed") d ∷ default_budget_row ∷ []
+    → rows_of_words (name ∷ codes "solve" ∷ a ∷ b ∷ c ∷ codes "--seed" ∷ d ∷ []) ≡ given (codes "instance") a ∷ given (codes "proof") b ∷ given (codes "restart") c ∷ given (codes "seed") d ∷ default_budget_row ∷ default_resume_row ∷ default_gap_row ∷ []
 unfolding clap_on_literals
 seed_rows_are name a b c d pa pb pc pd =
     rw (not_dashes a pa, not_long a pa, not_short a pa, not_dashes b pb, not_long b pb, not_short b pb, not_dashes c pc, not_long c pc, not_short c pc, not_dashes d pd, not_long d pd, not_short d pd) refl
@@ -142,6 +152,8 @@ seeds_taken name a b c d pa pb pc fits =
       restart_is = rw rows refl;
       budget_is = rw rows refl;
       seed_is = rw rows refl;
+      resume_is = rw rows refl;
+      gap_is = rw rows refl;
     }
 
 -- ---- `tour`

@@ -21,9 +21,9 @@ use Rattle.clap.specs.declared.builder.value_parser.Reading.{Reading}
 use Rattle.clap.specs.declared.builder.value_parser.ValueParser.TheVariants as parser
 use Rattle.clap.specs.declared.parser.matches.ValueSource.{ValueSource}
 use Rattle.clap.specs.declared.parser.matches.ValueSource.TheVariants.{DefaultValue}
-use Rattle.tspwords.specs.Program.{program, verifier, IsTaken, IsVerifierCall, command_word, rows_of_words, word_in, word_for, budget_of, seed_of, most_budget, least_cities, most_cities, most_seed, default_seed, solve_shape, verify_shape, tour_shape, bench_shape}
+use Rattle.tspwords.specs.Program.{program, verifier, IsTaken, IsVerifierCall, command_word, rows_of_words, word_in, word_for, budget_of, seed_of, gap_of, is_on, most_budget, least_cities, most_cities, most_seed, most_gap, default_seed, default_gap, solve_shape, verify_shape, tour_shape, bench_shape}
 use Rattle.tspwords.specs.Laws.{TakenWordsAreGiven, VerifierWordsAreGiven}
-use Rattle.tspwords.specs.Found.{IsSolveOf, IsVerifyOf, IsTourOf, IsBenchOf, budget_in, cities_in, seed_in}
+use Rattle.tspwords.specs.Found.{IsSolveOf, IsVerifyOf, IsTourOf, IsBenchOf, budget_in, cities_in, seed_in, gap_in}
 use Rattle.tspwords.specs.Says.{SaysSolve, SaysVerify, SaysTour, SaysBench, SaysPaths}
 use Rattle.tspwords.specs.declared.words.BenchWords.{BenchWords}
 use Rattle.tspwords.specs.declared.words.Solve.{Solve}
@@ -56,19 +56,19 @@ abbrev pub verifier_built : Shape
 verifier_built = (built verifier).top
 
 solve_plain : ArePlain solve_built.rules
-solve_plain = (record { own = refl; kind = inl (record { set = refl; least = refl; most = refl }) }, (record { own = refl; kind = inl (record { set = refl; least = refl; most = refl }) }, (record { own = refl; kind = inl (record { set = refl; least = refl; most = refl }) }, (record { own = refl; kind = inl (record { set = refl; least = refl; most = refl }) }, (record { own = refl; kind = inl (record { set = refl; least = refl; most = refl }) }, (record { own = refl; kind = inr refl }, tt))))))
+solve_plain = (record { own = refl; kind = inl (record { set = refl; least = refl; most = refl }) }, (record { own = refl; kind = inl (record { set = refl; least = refl; most = refl }) }, (record { own = refl; kind = inl (record { set = refl; least = refl; most = refl }) }, (record { own = refl; kind = inl (record { set = refl; least = refl; most = refl }) }, (record { own = refl; kind = inl (record { set = refl; least = refl; most = refl }) }, (record { own = refl; kind = inr (inr (record { set = refl; least = refl; most = refl; some = omega arith })) }, (record { own = refl; kind = inl (record { set = refl; least = refl; most = refl }) }, (record { own = refl; kind = inr (inl refl) }, tt))))))))
 
 verify_plain : ArePlain verify_built.rules
-verify_plain = (record { own = refl; kind = inl (record { set = refl; least = refl; most = refl }) }, (record { own = refl; kind = inl (record { set = refl; least = refl; most = refl }) }, (record { own = refl; kind = inr refl }, tt)))
+verify_plain = (record { own = refl; kind = inl (record { set = refl; least = refl; most = refl }) }, (record { own = refl; kind = inl (record { set = refl; least = refl; most = refl }) }, (record { own = refl; kind = inr (inl refl) }, tt)))
 
 tour_plain : ArePlain tour_built.rules
-tour_plain = (record { own = refl; kind = inl (record { set = refl; least = refl; most = refl }) }, (record { own = refl; kind = inl (record { set = refl; least = refl; most = refl }) }, (record { own = refl; kind = inr refl }, tt)))
+tour_plain = (record { own = refl; kind = inl (record { set = refl; least = refl; most = refl }) }, (record { own = refl; kind = inl (record { set = refl; least = refl; most = refl }) }, (record { own = refl; kind = inr (inl refl) }, tt)))
 
 bench_plain : ArePlain bench_built.rules
-bench_plain = (record { own = refl; kind = inl (record { set = refl; least = refl; most = refl }) }, (record { own = refl; kind = inl (record { set = refl; least = refl; most = refl }) }, (record { own = refl; kind = inl (record { set = refl; least = refl; most = refl }) }, (record { own = refl; kind = inl (record { set = refl; least = refl; most = refl }) }, (record { own = refl; kind = inr refl }, tt)))))
+bench_plain = (record { own = refl; kind = inl (record { set = refl; least = refl; most = refl }) }, (record { own = refl; kind = inl (record { set = refl; least = refl; most = refl }) }, (record { own = refl; kind = inl (record { set = refl; least = refl; most = refl }) }, (record { own = refl; kind = inl (record { set = refl; least = refl; most = refl }) }, (record { own = refl; kind = inr (inl refl) }, tt)))))
 
 verifier_plain : ArePlain verifier_built.rules
-verifier_plain = (record { own = refl; kind = inl (record { set = refl; least = refl; most = refl }) }, (record { own = refl; kind = inl (record { set = refl; least = refl; most = refl }) }, (record { own = refl; kind = inr refl }, tt)))
+verifier_plain = (record { own = refl; kind = inl (record { set = refl; least = refl; most = refl }) }, (record { own = refl; kind = inl (record { set = refl; least = refl; most = refl }) }, (record { own = refl; kind = inr (inl refl) }, tt)))
 
 -- ---- a word that has to be there
 
@@ -197,6 +197,7 @@ pub record IsWhole (rows : List Row) : Type 0 where
   pub restart : first_of (codes "restart") rows ≡ Some (word_in (codes "restart") rows)
   pub budget : is_unsigned_in 0 most_budget (word_in (codes "budget") rows) ≡ true
   pub seed : is_unsigned_in 0 most_seed (word_in (codes "seed") rows) ≡ true
+  pub gap : is_unsigned_in 0 most_gap (word_in (codes "gap") rows) ≡ true
 
 word_is : (id : Text) (rows : List Row) (v : Text) → first_of id rows ≡ Some v → first_of id rows ≡ Some (word_in id rows)
 word_is id rows v e = e ∙ ap (λ o. Some (unwrap_or o [])) (sym e)
@@ -247,6 +248,9 @@ solve_budget = record { rule = slice_index_or solve_built.rules 3 help_rule; own
 solve_seed : TakesNumber solve_built (codes "seed") 0 most_seed
 solve_seed = record { rule = slice_index_or solve_built.rules 4 help_rule; own = refl; is = refl; reads = refl; default = codes "1"; fills = refl }
 
+solve_gap : TakesNumber solve_built (codes "gap") 0 most_gap
+solve_gap = record { rule = slice_index_or solve_built.rules 6 help_rule; own = refl; is = refl; reads = refl; default = codes "0"; fills = refl }
+
 tour_seed : TakesNumber tour_built (codes "seed") 0 most_seed
 tour_seed = record { rule = slice_index_or tour_built.rules 1 help_rule; own = refl; is = refl; reads = refl; default = codes "1"; fills = refl }
 
@@ -259,6 +263,7 @@ solve_whole words found =
       restart = path_whole solve_built words (codes "restart") (slice_index_or solve_built.rules 2 help_rule) refl found given.2;
       budget = number_whole solve_built words (codes "budget") 0 most_budget solve_budget found;
       seed = number_whole solve_built words (codes "seed") 0 most_seed solve_seed found;
+      gap = number_whole solve_built words (codes "gap") 0 most_gap solve_gap found;
     }
 
 -- ---- the words of `tour`
@@ -412,6 +417,7 @@ taken_given words taken = elim (taken_whole words taken) [
     restart = solve.whole.restart;
     budget = unsigned_in 0 most_budget (word_for (codes "budget") words) solve.whole.budget;
     seed = unsigned_in 0 most_seed (word_for (codes "seed") words) solve.whole.seed;
+    gap = unsigned_in 0 most_gap (word_for (codes "gap") words) solve.whole.gap;
   })
   | inr (inl verify) ↦ inr (inl (record {
     named = record { taken = taken; named = verify.named };
@@ -481,6 +487,11 @@ budget_says : (words : List Text) (rows : List Row) (budget : ℕ) → is_unsign
 budget_says words rows budget passes same found =
     found ∙ ap (λ r. budget_in (word_in (codes "budget") r)) same ∙ number_taken 0 most_budget most_budget (word_for (codes "budget") words) passes
 
+gap_says : (words : List Text) (rows : List Row) (gap : ℕ) → is_unsigned_in 0 most_gap (word_for (codes "gap") words) ≡ true → rows ≡ rows_of_words words
+    → gap ≡ gap_in (word_in (codes "gap") rows) → gap ≡ gap_of words
+gap_says words rows gap passes same found =
+    found ∙ ap (λ r. gap_in (word_in (codes "gap") r)) same ∙ number_taken 0 most_gap default_gap (word_for (codes "gap") words) passes
+
 -- a call that was found, where the words are taken
 pub says_solve : (words : List Text) (rows : List Row) (s : Solve) → IsTaken words → command_word words ≡ codes "solve" → rows ≡ rows_of_words words → IsSolveOf rows s → SaysSolve words s
 says_solve words rows s taken is same found =
@@ -492,6 +503,9 @@ says_solve words rows s taken is same found =
       budget = budget_says words rows s.budget whole.budget same found.budget;
       few = found.few;
       seed = seed_says words rows s.seed whole.seed same found.seed;
+      resume = found.resume ∙ ap (λ r. is_on (word_in (codes "resume") r)) same;
+      gap = gap_says words rows s.gap whole.gap same found.gap;
+      most = found.most;
     }
 
 pub says_verify : (words : List Text) (rows : List Row) (v : VerifyWords) → IsTaken words → (command_word words ≡ codes "solve" → ⊥) → (command_word words ≡ codes "tour" → ⊥) → (command_word words ≡ codes "bench" → ⊥) → rows ≡ rows_of_words words

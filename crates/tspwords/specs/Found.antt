@@ -6,7 +6,7 @@ use Rattle.tspwords.specs.declared.words.BenchWords.{BenchWords}
 use Rattle.tspwords.specs.declared.words.Solve.{Solve}
 use Rattle.tspwords.specs.declared.words.TourWords.{TourWords}
 use Rattle.tspwords.specs.declared.words.VerifyWords.{VerifyWords}
-use Rattle.tspwords.specs.Program.{most_budget, least_cities, most_cities, most_seed, default_seed, number_of, word_in}
+use Rattle.tspwords.specs.Program.{most_budget, least_cities, most_cities, most_seed, most_gap, default_seed, default_gap, number_of, is_on, word_in}
 
 -- the number that a word says, where it is one from `least` to `most`
 abbrev pub number_in : ℕ → ℕ → ℕ → Text → ℕ
@@ -24,6 +24,10 @@ cities_in word = number_in least_cities most_cities least_cities word
 abbrev pub seed_in : Text → ℕ
 seed_in word = number_in 0 most_seed default_seed word
 
+-- the gap that a word says, where it is a number that a gap may be
+abbrev pub gap_in : Text → ℕ
+gap_in word = number_in 0 most_gap default_gap word
+
 -- this call of `solve` is what was found for its arguments
 pub record IsSolveOf (rows : List Row) (s : Solve) : Type 0 where
   pub instance : string_bytes s.instance ≡ word_in (codes "instance") rows
@@ -32,6 +36,9 @@ pub record IsSolveOf (rows : List Row) (s : Solve) : Type 0 where
   pub budget : s.budget ≡ budget_in (word_in (codes "budget") rows)
   pub few : s.budget ≤ most_budget
   pub seed : s.seed ≡ seed_in (word_in (codes "seed") rows)
+  pub resume : s.resume ≡ is_on (word_in (codes "resume") rows)
+  pub gap : s.gap ≡ gap_in (word_in (codes "gap") rows)
+  pub most : s.gap ≤ most_gap
 
 -- this call of `tour` is what was found for its arguments
 pub record IsTourOf (rows : List Row) (t : TourWords) : Type 0 where

@@ -1,42 +1,65 @@
 -- What words of a command say.
-use Rattle.std.specs.Prelude.{◌≡◌, ◌≢◌, ℕ, ◌⊎◌, List, [], ◌∷◌, Some, codes, slice_index}
+use Rattle.std.specs.Prelude.{◌≡◌, ◌≢◌, ℕ, Bool, true, false, ◌⊎◌, List, [], ◌∷◌, Some, codes, slice_index}
 use Rattle.clap.specs.Values.{IsUnsignedIn}
 use Rattle.clap.specs.Walk.{Text, first_of}
 use Rattle.clap.specs.Simple.{matches_of}
-use Rattle.tspwords.specs.Program.{IsTaken, IsSolveCall, IsVerifyCall, IsTourCall, IsBenchCall, IsVerifierCall, most_budget, least_cities, most_cities, most_seed, default_seed, instance_word, proof_word, restart_word, out_word, budget_of, cities_of, seed_of, number_of, rows_of_words, verifier, verifier_word, word_for}
+use Rattle.tspwords.specs.Program.{IsTaken, IsSolveCall, IsVerifyCall, IsTourCall, IsBenchCall, IsVerifierCall, most_budget, least_cities, most_cities, most_seed, most_gap, default_seed, default_gap, instance_word, proof_word, restart_word, out_word, budget_of, cities_of, seed_of, resumes, gap_of, number_of, rows_of_words, verifier, verifier_word, word_for}
 
 -- a word that does not begin with a hyphen
 abbrev pub IsPlain : Text → Type 0
 IsPlain word = slice_index word 0 ≢ 45
 
--- the words are a call of `solve`, with these paths, this budget and this seed
-pub record AreTaken (words : List Text) (instance proof restart : Text) (budget seed : ℕ) : Type 0 where
+-- the words are a call of `solve`, with these paths, this budget and this seed, with `--resume` or without it, and with this
+-- gap
+pub record AreTaken (words : List Text) (instance proof restart : Text) (budget seed : ℕ) (resume : Bool) (gap : ℕ) : Type 0 where
   pub call : IsSolveCall words
   pub instance_is : instance_word words ≡ instance
   pub proof_is : proof_word words ≡ proof
   pub restart_is : restart_word words ≡ restart
   pub budget_is : budget_of words ≡ budget
   pub seed_is : seed_of words ≡ seed
+  pub resume_is : resumes words ≡ resume
+  pub gap_is : gap_of words ≡ gap
 
--- `solve` with three paths has the greatest budget and the seed 1
+-- `solve` with three paths has the greatest budget and the seed 1, goes on from nothing, and leaves no gap
 abbrev pub PathsAreTaken : Type 0
 PathsAreTaken = (name a b c : Text) → IsPlain a → IsPlain b → IsPlain c
-    → AreTaken (name ∷ codes "solve" ∷ a ∷ b ∷ c ∷ []) a b c most_budget default_seed
+    → AreTaken (name ∷ codes "solve" ∷ a ∷ b ∷ c ∷ []) a b c most_budget default_seed false default_gap
 
 -- `solve` with three paths and `--budget N`
 abbrev pub BudgetsAreTaken : Type 0
 BudgetsAreTaken = (name a b c d : Text) → IsPlain a → IsPlain b → IsPlain c → IsUnsignedIn 0 most_budget d
-    → AreTaken (name ∷ codes "solve" ∷ a ∷ b ∷ c ∷ codes "--budget" ∷ d ∷ []) a b c (number_of d) default_seed
+    → AreTaken (name ∷ codes "solve" ∷ a ∷ b ∷ c ∷ codes "--budget" ∷ d ∷ []) a b c (number_of d) default_seed false default_gap
 
 -- `solve` with three paths and `--seed S`
 abbrev pub SeedsAreTaken : Type 0
 SeedsAreTaken = (name a b c d : Text) → IsPlain a → IsPlain b → IsPlain c → IsUnsignedIn 0 most_seed d
-    → AreTaken (name ∷ codes "solve" ∷ a ∷ b ∷ c ∷ codes "--seed" ∷ d ∷ []) a b c most_budget (number_of d)
+    → AreTaken (name ∷ codes "solve" ∷ a ∷ b ∷ c ∷ codes "--seed" ∷ d ∷ []) a b c most_budget (number_of d) false default_gap
 
 -- `solve` with three paths, `--budget N` and `--seed S`
 abbrev pub BudgetsAndSeedsAreTaken : Type 0
 BudgetsAndSeedsAreTaken = (name a b c d e : Text) → IsPlain a → IsPlain b → IsPlain c → IsUnsignedIn 0 most_budget d → IsUnsignedIn 0 most_seed e
-    → AreTaken (name ∷ codes "solve" ∷ a ∷ b ∷ c ∷ codes "--budget" ∷ d ∷ codes "--seed" ∷ e ∷ []) a b c (number_of d) (number_of e)
+    → AreTaken (name ∷ codes "solve" ∷ a ∷ b ∷ c ∷ codes "--budget" ∷ d ∷ codes "--seed" ∷ e ∷ []) a b c (number_of d) (number_of e) false default_gap
+
+-- `solve` with three paths and `--resume`
+abbrev pub ResumeIsTaken : Type 0
+ResumeIsTaken = (name a b c : Text) → IsPlain a → IsPlain b → IsPlain c
+    → AreTaken (name ∷ codes "solve" ∷ a ∷ b ∷ c ∷ codes "--resume" ∷ []) a b c most_budget default_seed true default_gap
+
+-- `solve` with three paths and `--gap G`
+abbrev pub GapsAreTaken : Type 0
+GapsAreTaken = (name a b c d : Text) → IsPlain a → IsPlain b → IsPlain c → IsUnsignedIn 0 most_gap d
+    → AreTaken (name ∷ codes "solve" ∷ a ∷ b ∷ c ∷ codes "--gap" ∷ d ∷ []) a b c most_budget default_seed false (number_of d)
+
+-- `solve` with three paths, `--resume` and `--budget N`
+abbrev pub ResumeAndBudgetsAreTaken : Type 0
+ResumeAndBudgetsAreTaken = (name a b c d : Text) → IsPlain a → IsPlain b → IsPlain c → IsUnsignedIn 0 most_budget d
+    → AreTaken (name ∷ codes "solve" ∷ a ∷ b ∷ c ∷ codes "--resume" ∷ codes "--budget" ∷ d ∷ []) a b c (number_of d) default_seed true default_gap
+
+-- `solve` with three paths, `--gap G` and `--budget N`
+abbrev pub GapsAndBudgetsAreTaken : Type 0
+GapsAndBudgetsAreTaken = (name a b c d e : Text) → IsPlain a → IsPlain b → IsPlain c → IsUnsignedIn 0 most_gap d → IsUnsignedIn 0 most_budget e
+    → AreTaken (name ∷ codes "solve" ∷ a ∷ b ∷ c ∷ codes "--gap" ∷ d ∷ codes "--budget" ∷ e ∷ []) a b c (number_of e) default_seed false (number_of d)
 
 -- the words are a call of `verify`, with these paths
 pub record AreVerifyTaken (words : List Text) (instance proof : Text) : Type 0 where
@@ -86,7 +109,7 @@ pub record AreVerifierTaken (words : List Text) (instance proof : Text) : Type 0
 abbrev pub VerifierIsTaken : Type 0
 VerifierIsTaken = (name a b : Text) → IsPlain a → IsPlain b → AreVerifierTaken (name ∷ a ∷ b ∷ []) a b
 
--- a call of `solve` gives each path, and a budget and a seed within their ranges, or none, for which the default stands
+-- a call of `solve` gives each path, and a budget, a seed and a gap within their ranges, or none, for which the default stands
 pub record AreGiven (words : List Text) : Type 0 where
   pub named : IsSolveCall words
   pub instance : first_of (codes "instance") (rows_of_words words) ≡ Some (instance_word words)
@@ -94,6 +117,7 @@ pub record AreGiven (words : List Text) : Type 0 where
   pub restart : first_of (codes "restart") (rows_of_words words) ≡ Some (restart_word words)
   pub budget : IsUnsignedIn 0 most_budget (word_for (codes "budget") words)
   pub seed : IsUnsignedIn 0 most_seed (word_for (codes "seed") words)
+  pub gap : IsUnsignedIn 0 most_gap (word_for (codes "gap") words)
 
 -- a call of `verify` gives both paths
 pub record AreVerifyGiven (words : List Text) : Type 0 where

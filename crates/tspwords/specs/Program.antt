@@ -1,11 +1,13 @@
 -- The command lines of the solver and of the verifier, as the parser of command lines is given them, and what words mean
 -- there.
-use Rattle.std.specs.Prelude.{◌≡◌, ℕ, List, [], ◌∷◌, Some, codes, unwrap_or, true}
+use Rattle.std.specs.Prelude.{◌≡◌, ℕ, Bool, List, [], ◌∷◌, Some, codes, unwrap_or, true}
 use Rattle.std.specs.Option.{option_map_or}
+use Rattle.std.specs.Str.{bytes_eq}
 use Rattle.std.specs.Str.Parse.{digits_value, without_leading_plus}
 use Rattle.clap.specs.Walk.{Row, Rule, Text, first_of}
 use Rattle.clap.specs.Simple.{App, Shape, matches_of, new_rule, new_shape, subcommand_of, with_subcommand}
 use Rattle.clap.specs.Faults.{fault_of}
+use Rattle.clap.specs.declared.builder.action.ArgAction.TheVariants.{SetTrue}
 use Rattle.clap.specs.declared.builder.value_parser.ValueParser.TheVariants as parser
 
 -- a word that has to be there
@@ -31,6 +33,14 @@ most_cities = 2000
 abbrev pub default_seed : ℕ
 default_seed = 1
 
+-- the greatest gap, 2 ^ 42
+abbrev pub most_gap : ℕ
+most_gap = 4398046511104
+
+-- the gap that holds where none is given
+abbrev pub default_gap : ℕ
+default_gap = 0
+
 -- `--id NUMBER`, the number from `least` to `most`
 abbrev pub number_rule : Text → ℕ → ℕ → Text → Rule
 number_rule id least most default = record (new_rule id) {
@@ -51,10 +61,24 @@ budget_rule = number_rule (codes "budget") 0 most_budget (codes "65536")
 abbrev pub seed_rule : Rule
 seed_rule = number_rule (codes "seed") 0 most_seed (codes "1")
 
--- `solve INSTANCE PROOF RESTART [--budget N] [--seed S]`
+-- `--resume`, a switch
+abbrev pub resume_rule : Rule
+resume_rule = record (new_rule (codes "resume")) { long = Some (codes "resume"); action = Some SetTrue }
+
+-- `--gap G`, G from 0 to 2 ^ 42
+abbrev pub gap_rule : Rule
+gap_rule = number_rule (codes "gap") 0 most_gap (codes "0")
+
+-- `solve INSTANCE PROOF RESTART [--budget N] [--seed S]`, with no more options
+abbrev pub solve_numbers : Shape
+solve_numbers = record (new_shape (codes "solve")) {
+  rules = path_rule (codes "instance") ∷ path_rule (codes "proof") ∷ path_rule (codes "restart") ∷ budget_rule ∷ seed_rule ∷ [];
+}
+
+-- `solve INSTANCE PROOF RESTART [--budget N] [--seed S] [--resume] [--gap G]`
 abbrev pub solve_shape : Shape
 solve_shape = record (new_shape (codes "solve")) {
-  rules = path_rule (codes "instance") ∷ path_rule (codes "proof") ∷ path_rule (codes "restart") ∷ budget_rule ∷ seed_rule ∷ [];
+  rules = path_rule (codes "instance") ∷ path_rule (codes "proof") ∷ path_rule (codes "restart") ∷ budget_rule ∷ seed_rule ∷ resume_rule ∷ gap_rule ∷ [];
 }
 
 -- `verify INSTANCE PROOF`
@@ -144,6 +168,16 @@ cities_of words = number_of (word_for (codes "cities") words)
 
 abbrev pub seed_of : List Text → ℕ
 seed_of words = number_of (word_for (codes "seed") words)
+
+-- a switch is on where its word is "true", and has the word "false" where it is not given
+abbrev pub is_on : Text → Bool
+is_on word = bytes_eq word (codes "true")
+
+abbrev pub resumes : List Text → Bool
+resumes words = is_on (word_for (codes "resume") words)
+
+abbrev pub gap_of : List Text → ℕ
+gap_of words = number_of (word_for (codes "gap") words)
 
 -- ---- the verifier, a program of its own
 

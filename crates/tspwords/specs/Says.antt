@@ -7,7 +7,7 @@ use Rattle.tspwords.specs.declared.words.TourWords.{TourWords}
 use Rattle.tspwords.specs.declared.words.VerifyWords.{VerifyWords}
 use Rattle.tspwords.specs.declared.words.Command.{Command}
 use Rattle.tspwords.specs.declared.words.Command.TheVariants as command
-use Rattle.tspwords.specs.Program.{most_budget, least_cities, most_cities, command_word, instance_word, proof_word, restart_word, out_word, budget_of, cities_of, seed_of, verifier_word}
+use Rattle.tspwords.specs.Program.{most_budget, most_gap, least_cities, most_cities, command_word, instance_word, proof_word, restart_word, out_word, budget_of, cities_of, seed_of, resumes, gap_of, verifier_word}
 
 -- the words say this call of `solve`
 pub record SaysSolve (words : List Text) (s : Solve) : Type 0 where
@@ -18,6 +18,9 @@ pub record SaysSolve (words : List Text) (s : Solve) : Type 0 where
   pub budget : s.budget ≡ budget_of words
   pub few : s.budget ≤ most_budget
   pub seed : s.seed ≡ seed_of words
+  pub resume : s.resume ≡ resumes words
+  pub gap : s.gap ≡ gap_of words
+  pub most : s.gap ≤ most_gap
 
 -- the words say this call of `verify`
 pub record SaysVerify (words : List Text) (v : VerifyWords) : Type 0 where

@@ -4,10 +4,10 @@ ghost use Rattle.std.specs.Prelude.{◌≡◌, codes, false, [], IfOk};
 ghost use Rattle.clap.specs.Walk.{rule_of};
 ghost use Rattle.clap.specs.Simple.{app_of, new_app, with_rule, on_top};
 ghost use Rattle.clap.specs.declared.builder.command.Command.TheViews.{out-Command};
-ghost use Rattle.tspwords.specs.Program.{path_rule, number_rule, numeral_rule, budget_rule, seed_rule, least_cities, most_cities, most_seed, solve_shape, verify_shape, tour_shape, bench_shape, proving, program, verifier};
+ghost use Rattle.tspwords.specs.Program.{path_rule, number_rule, numeral_rule, budget_rule, seed_rule, resume_rule, gap_rule, least_cities, most_cities, most_seed, solve_numbers, solve_shape, verify_shape, tour_shape, bench_shape, proving, program, verifier};
 
 use clap::builder::ValueParser;
-use clap::{Arg, Command};
+use clap::{Arg, ArgAction, Command};
 use std::alloc::{AllocError, Global};
 
 // A word that has to be there.
@@ -53,6 +53,24 @@ fn seed<'a>(alloc: Global) -> Arg<'a>
     number(alloc, "seed", 0, u64::MAX, "1")
 }
 
+// `--resume`
+fn resume<'a>(alloc: Global) -> Arg<'a>
+    ensures rule { rule_of result ≡ resume_rule }
+    ensures local { result.global ≡ false }
+{
+    Arg::new(alloc, "resume")
+        .long("resume")
+        .action(ArgAction::SetTrue)
+}
+
+// `--gap G`
+fn gap<'a>(alloc: Global) -> Arg<'a>
+    ensures rule { rule_of result ≡ gap_rule }
+    ensures local { result.global ≡ false }
+{
+    number(alloc, "gap", 0, 4398046511104, "0")
+}
+
 // `solve INSTANCE PROOF`, the front of `solve`.
 fn solve_front<'a>(alloc: Global) -> Result<Command<'a>, AllocError>
     ensures app { IfOk result (λ c. app_of c ≡ with_rule (with_rule (new_app (codes "solve")) (path_rule (codes "instance"))) (path_rule (codes "proof"))) }
@@ -72,11 +90,19 @@ fn solve_paths<'a>(alloc: Global) -> Result<Command<'a>, AllocError>
 }
 
 // `solve INSTANCE PROOF RESTART [--budget N] [--seed S]`
+fn solve_numbers<'a>(alloc: Global) -> Result<Command<'a>, AllocError>
+    ensures app { IfOk result (λ c. app_of c ≡ record { top = solve_numbers; subs = [] }) }
+    ensures local { IfOk result (λ c. (out-Command c).has_globals ≡ false) }
+{
+    solve_paths(alloc)?.arg(budget(alloc))?.arg(seed(alloc))
+}
+
+// `solve INSTANCE PROOF RESTART [--budget N] [--seed S] [--resume] [--gap G]`
 fn solve<'a>(alloc: Global) -> Result<Command<'a>, AllocError>
     ensures app { IfOk result (λ c. app_of c ≡ record { top = solve_shape; subs = [] }) }
     ensures local { IfOk result (λ c. (out-Command c).has_globals ≡ false) }
 {
-    solve_paths(alloc)?.arg(budget(alloc))?.arg(seed(alloc))
+    solve_numbers(alloc)?.arg(resume(alloc))?.arg(gap(alloc))
 }
 
 // `tour INSTANCE [--seed S]`

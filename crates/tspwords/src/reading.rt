@@ -5,8 +5,8 @@ ghost use Rattle.clap.specs.Walk.{rows_of};
 ghost use Rattle.clap.specs.Simple.{app_of, matches_of, subcommand_of, subcommand_rows_of};
 ghost use Rattle.clap.specs.Faults.{fault_of, is_simple_and_free};
 ghost use Rattle.clap.specs.declared.builder.command.Command.TheViews.{out-Command};
-ghost use Rattle.tspwords.specs.Program.{program, verifier, IsTaken, IsVerifierCall, word_in};
-ghost use Rattle.tspwords.specs.Found.{IsSolveOf, IsVerifyOf, IsTourOf, IsBenchOf, number_in, budget_in, cities_in, seed_in};
+ghost use Rattle.tspwords.specs.Program.{program, verifier, IsTaken, IsVerifierCall, is_on, word_in};
+ghost use Rattle.tspwords.specs.Found.{IsSolveOf, IsVerifyOf, IsTourOf, IsBenchOf, number_in, budget_in, cities_in, seed_in, gap_in};
 ghost use Rattle.tspwords.specs.Says.{Says, SaysPaths};
 
 use crate::program::{program, verifier};
@@ -26,6 +26,12 @@ const MOST_CITIES: u64 = 2000;
 
 /// The seed where none is given.
 const DEFAULT_SEED: u64 = 1;
+
+/// The greatest gap, 2^42.
+const MOST_GAP: u64 = 4398046511104;
+
+/// The gap where none is given.
+const DEFAULT_GAP: u64 = 0;
 
 /// Reads the words of the solver's command line, of which the first is the program's name.
 ///
@@ -102,6 +108,8 @@ fn solve(alloc: Global, found: &ArgMatches) -> Result<Solve, AllocError>
         restart: path(alloc, found, "restart")?,
         budget: budget(found),
         seed: seed(found),
+        resume: resume(found),
+        gap: gap(found),
     })
 }
 
@@ -184,6 +192,21 @@ fn seed(found: &ArgMatches) -> u64
     ensures { result ≡ seed_in (word_in (codes "seed") (rows_of (found_of found.now))) }
 {
     number_in(word(found, "seed"), 0, u64::MAX, DEFAULT_SEED)
+}
+
+// Whether `--resume` was found.
+fn resume(found: &ArgMatches) -> bool
+    ensures { result ≡ is_on (word_in (codes "resume") (rows_of (found_of found.now))) }
+{
+    word(found, "resume") == "true"
+}
+
+// The gap that was found.
+fn gap(found: &ArgMatches) -> u64
+    ensures value { result ≡ gap_in (word_in (codes "gap") (rows_of (found_of found.now))) }
+    ensures most { result ≤ 4398046511104 }
+{
+    number_in(word(found, "gap"), 0, MOST_GAP, DEFAULT_GAP)
 }
 
 // The number that a word says where it is from `least` to `most`, else `default`.

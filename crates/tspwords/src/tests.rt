@@ -46,6 +46,69 @@ fn words_that_are_taken(rt: HostRuntime) -> Result<(), Fail> {
 }
 
 #[test]
+fn words_that_resume_or_leave_a_gap(rt: HostRuntime) -> Result<(), Fail> {
+    for (line, resume, gap, budget, seed) in [
+        ("tspc solve a b c", false, 0, 65536, 1),
+        ("tspc solve a b c --resume", true, 0, 65536, 1),
+        ("tspc solve --resume a b c", true, 0, 65536, 1),
+        ("tspc solve a b c --gap 0", false, 0, 65536, 1),
+        (
+            "tspc solve a b c --gap 4398046511104",
+            false,
+            4398046511104,
+            65536,
+            1,
+        ),
+        ("tspc solve a --gap=+7 b c", false, 7, 65536, 1),
+        ("tspc solve a b c --resume --budget 200", true, 0, 200, 1),
+        (
+            "tspc solve a b c --gap 100 --budget 300",
+            false,
+            100,
+            300,
+            1,
+        ),
+        (
+            "tspc solve --gap 5 a --seed 2 b --resume c --budget 3",
+            true,
+            5,
+            3,
+            2,
+        ),
+    ] {
+        match read(rt.alloc(), line)? {
+            Command::Solve(solve) => {
+                assert_eq!(rt; solve.instance.as_str(), "a", "{line}");
+                assert_eq!(rt; solve.proof.as_str(), "b", "{line}");
+                assert_eq!(rt; solve.restart.as_str(), "c", "{line}");
+                assert_eq!(rt; solve.resume, resume, "{line}");
+                assert_eq!(rt; solve.gap, gap, "{line}");
+                assert_eq!(rt; solve.budget, budget, "{line}");
+                assert_eq!(rt; solve.seed, seed, "{line}");
+            }
+            _ => panic!(rt; "{line}"),
+        }
+    }
+    Ok(())
+}
+
+// The name of a switch is a path behind `--`.
+#[test]
+fn a_path_that_is_called_resume_resumes_nothing(rt: HostRuntime) -> Result<(), Fail> {
+    match read(rt.alloc(), "tspc solve --gap 3 -- --resume true --gap")? {
+        Command::Solve(solve) => {
+            assert_eq!(rt; solve.instance.as_str(), "--resume");
+            assert_eq!(rt; solve.proof.as_str(), "true");
+            assert_eq!(rt; solve.restart.as_str(), "--gap");
+            assert!(rt; !solve.resume);
+            assert_eq!(rt; solve.gap, 3);
+        }
+        _ => panic!(rt; "another command"),
+    }
+    Ok(())
+}
+
+#[test]
 fn words_of_tour_that_are_taken(rt: HostRuntime) -> Result<(), Fail> {
     for (line, instance, seed) in [
         ("tspc tour a", "a", 1),
@@ -175,6 +238,24 @@ fn words_that_are_not_taken(rt: HostRuntime) -> Result<(), Fail> {
         "tspc verif a b",
         "tspc solve a b c --seed",
         "tspc solve a b c --seed 18446744073709551616",
+        "tspc solve a b c --resume=true",
+        "tspc solve a b c --resume=",
+        "tspc solve a b c --resume true",
+        "tspc solve a b c --resume --resume",
+        "tspc solve a b c --resum",
+        "tspc solve a b --resume",
+        "tspc solve a b c --gap",
+        "tspc solve a b c --gap=",
+        "tspc solve a b c --gap --resume",
+        "tspc solve a b c --gap 4398046511105",
+        "tspc solve a b c --gap 18446744073709551616",
+        "tspc solve a b c --gap -1",
+        "tspc solve a b c --gap 1/2",
+        "tspc solve a b c --gap 1 --gap 2",
+        "tspc verify a b --gap 0",
+        "tspc bench 1 3 5 p --resume",
+        "tspc tour a --resume",
+        "tspc tour a --gap 1",
         "tspc tour",
         "tspc tour a b",
         "tspc tour a --seed -1",

@@ -5,8 +5,9 @@ use std::alloc::AllocError;
 use std::error::Error;
 use std::fmt;
 
-/// A call of `solve`: the paths of the instance, of the proof and of the restart slots, the greatest number of nodes to
-/// settle, from 0 to 65,536, and the seed of the random choices.
+/// A call of `solve`: the paths of the instance, of the proof and of the restart slots; the greatest number of nodes to
+/// settle, from 0 to 65,536; the seed of the random choices; whether to go on from what the restart slots hold; and the gap,
+/// from 0 to 2^42, by which the tour may be longer than a shortest one.
 #[derive(Debug, Drop)]
 pub struct Solve {
     pub instance: String,
@@ -14,6 +15,8 @@ pub struct Solve {
     pub restart: String,
     pub budget: u32,
     pub seed: u64,
+    pub resume: bool,
+    pub gap: u64,
 }
 
 /// A call of `verify`, or of the verifier: the paths of the instance and of the proof.
@@ -43,7 +46,7 @@ pub struct BenchWords {
 /// A command of the solver.
 #[derive(Debug, Drop)]
 pub enum Command {
-    /// `solve INSTANCE PROOF RESTART [--budget N] [--seed S]`
+    /// `solve INSTANCE PROOF RESTART [--budget N] [--seed S] [--resume] [--gap G]`
     Solve(Solve),
     /// `verify INSTANCE PROOF`
     Verify(VerifyWords),

@@ -1,3 +1,4 @@
+use Rattle.tspwords.proofs.Gaps.{resume_taken, gaps_taken, resume_budgets_taken, gaps_budgets_taken}
 use Rattle.tspwords.proofs.Options.{both_taken}
 use Rattle.tspwords.proofs.PlainWords.{paths_taken, budgets_taken, seeds_taken, verify_taken, tour_taken, tour_seeds_taken, verifier_words_taken}
 use Rattle.tspwords.proofs.Positionals.{bench_taken}
@@ -14,6 +15,18 @@ returns-clause-seeds c = seeds_taken
 
 pub returns-clause-both : goal.returns-clause-both
 returns-clause-both c = both_taken
+
+pub returns-clause-resume : goal.returns-clause-resume
+returns-clause-resume c = resume_taken
+
+pub returns-clause-gaps : goal.returns-clause-gaps
+returns-clause-gaps c = gaps_taken
+
+pub returns-clause-resume_budgets : goal.returns-clause-resume_budgets
+returns-clause-resume_budgets c = resume_budgets_taken
+
+pub returns-clause-gaps_budgets : goal.returns-clause-gaps_budgets
+returns-clause-gaps_budgets c = gaps_budgets_taken
 
 pub returns-clause-verify : goal.returns-clause-verify
 returns-clause-verify c = verify_taken
