@@ -10,8 +10,7 @@ one that the run handed in; and the latter, if the run ended with status 5. A ru
 killed and left a slot with a closed gate, or one that is open and torn.
 
 --resume starts each run with `--resume` where the slots hold a body, and wants each of these to be accepted (no status 4) and a
-last run, that is not killed, to reach the optimum. This build of tspc may not have that switch yet; without it every run starts
-anew, and the last one must end with status 0 or 5.
+last run, that is not killed, to reach the optimum. Without it every run starts anew, and the last one must end with status 0 or 5.
 """
 import argparse
 import random

@@ -11,7 +11,7 @@ _tspc() {
     esac
     if [[ $word == -* ]]; then
         case ${COMP_WORDS[1]} in
-        solve) mapfile -t COMPREPLY < <(compgen -W '--budget --seed' -- "$word") ;;
+        solve) mapfile -t COMPREPLY < <(compgen -W '--budget --seed --resume --gap' -- "$word") ;;
         tour) mapfile -t COMPREPLY < <(compgen -W '--seed' -- "$word") ;;
         esac
     elif [ "${COMP_WORDS[1]}" != bench ]; then

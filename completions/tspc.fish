@@ -6,4 +6,6 @@ complete -c tspc -n "not __fish_seen_subcommand_from $commands" -a verify -d 'Wh
 complete -c tspc -n "not __fish_seen_subcommand_from $commands" -a tour -d 'A good tour at once'
 complete -c tspc -n "not __fish_seen_subcommand_from $commands" -a bench -d 'Solve a pseudo-random instance'
 complete -c tspc -n '__fish_seen_subcommand_from solve' -l budget -x -d 'Nodes to close or split at most'
+complete -c tspc -n '__fish_seen_subcommand_from solve' -l resume -d 'Go on from the restart body'
+complete -c tspc -n '__fish_seen_subcommand_from solve' -l gap -x -d 'By how much the tour may miss a shortest one'
 complete -c tspc -n '__fish_seen_subcommand_from solve tour' -l seed -x -d 'Seed of the tour search'

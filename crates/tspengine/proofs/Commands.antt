@@ -20,7 +20,7 @@ use Rattle.tspengine.specs.Runs.{Ends, HasCauses}
 use Rattle.tspengine.specs.declared.statuses.Status.{Status}
 use Rattle.tspengine.specs.declared.statuses.Status.TheVariants as status
 use Rattle.tspengine.proofs.InstanceReads.{same_touches}
-use Rattle.tspengine.proofs.Storing.{kept_or_begun, no_moments}
+use Rattle.tspengine.proofs.Solves.{silent_short}
 
 -- words that begin with other letters
 apart : (m n : ℕ) (xs ys : List ℕ) → (m < n) ⊎ (n < m) → m ∷ xs ≡ n ∷ ys → ⊥
@@ -262,7 +262,7 @@ verify_idle c idle = record {
 
 pub ends_idle : (c : Call) → TakenWordsAreGiven → IsIdle c → Ends status.NoMemory c
 ends_idle c given idle = elim (which_words c.words given) [
-  | inl call ↦ ends_solve status.NoMemory c call (inr (inr (inr (inr (inr (inr (refl, record { desk = untouched c idle; slots = kept_or_begun c idle.slots; a_crash_leaves_what_was_there = no_moments c idle.slots idle.moments })))))))
+  | inl call ↦ ends_solve status.NoMemory c call (silent_short c (untouched c idle) idle.slots idle.moments)
   | inr (inl call) ↦ ends_verify status.NoMemory c call (verify_idle c idle)
   | inr (inr (inl call)) ↦ ends_tour status.NoMemory c call (inr (inr (inr (inr (refl, record { desk = untouched c idle; slots = idle.slots })))))
   | inr (inr (inr (inl call))) ↦ ends_bench status.NoMemory c call (inr (inr (inr (refl, record { desk = idle.desk; slots = idle.slots }))))

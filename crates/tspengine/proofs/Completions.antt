@@ -1,18 +1,23 @@
 -- What follows where nothing fails.
-use Rattle.std.proofs.Common.{◌≡◌, ℕ, List, sym, subst, ◌∙◌, inl, inr, Option, Some, None, Ok, arith, eq-eqb}
+use Rattle.std.proofs.Common.{◌≡◌, ℕ, List, sym, subst, ◌∙◌, inl, inr, Option, Some, None, Ok, true, arith, eq-eqb}
 use Rattle.std.specs.Prelude.{◌==◌, cond}
 use Rattle.std.proofs.lemmas.Bool.{cond-true, cond-false, ne_eqb}
-use Rattle.ports.specs.Outside.{BothTell, Cause}
+use Rattle.ports.specs.Outside.{BothTell, WhereTold, Cause}
 use Rattle.ports.specs.Desk.{Told}
 use Rattle.tspdef.specs.Instances.{Instance}
 use Rattle.tspinst.specs.Texts.{InstanceText}
 use Rattle.certdef.specs.Accepted.{IsAcceptedText}
-use Rattle.tspwords.specs.Program.{instance_word}
+use Rattle.ports.specs.Slots.{SlotsTold}
+use Rattle.slotstore.specs.Store.{loaded}
+use Rattle.tspdef.specs.Trees.{Tree}
+use Rattle.resume_form.specs.Resumed.{IsResumed, IsRefused, OneReading}
+use Rattle.tspwords.specs.Program.{instance_word, budget_of, gap_of, resumes}
 use Rattle.verification.specs.Headline.{Verified, Within, BadInstance, Refused}
 use Rattle.verification.specs.Paths.{Paths}
 use Rattle.verification.specs.Counts.{IsCalm, IsTold}
-use Rattle.tspengine.specs.Calls.{Call}
-use Rattle.tspengine.specs.Solving.{SolveCompletes}
+use Rattle.tspengine.specs.Calls.{Call, DeskTold}
+use Rattle.tspengine.specs.Starts.{Start, Begins, GoesOnWith}
+use Rattle.tspengine.specs.Solving.{BadRestart, IsRefusedLoad, MayBegin, SolveCompletes, RefusedCompletes}
 use Rattle.tspengine.specs.Verifying.{paths_of, VerifyCompletes, AcceptedCompletes}
 use Rattle.tspengine.specs.Touring.{TourCompletes}
 use Rattle.tspengine.specs.Benching.{BenchCompletes, SmallBenchCompletes}
@@ -29,15 +34,74 @@ not_bad path i None b told run = told
 not_bad path i (Some t) None told run = run
 not_bad path i (Some t) (Some u) told run = let e = sym told ∙ run.first_refusal in cc
 
-solve_completes : (s : Status) (c : Call) → Ends s c → HasCauses s c → SolveCompletes s c
-solve_completes s c ends causes = λ i call told calm still. elim (ends.solve call) [
+one_instance : (bytes : List ℕ) (i j : Instance) → InstanceText bytes i → InstanceText bytes j → i ≡ j
+one_instance bytes i j p q = let e : Ok i ≡ Ok j = sym p ∙ q in cc
+
+-- a body that is read is not refused
+not_refused_body : OneReading → (i : Instance) (c : Call) → MayBegin c i → BadRestart c → DeskTold (λ t. InstanceText t.instance i) c → ⊥
+not_refused_body reading i c may bad told = go c.before.slots (may bad.asked) bad.refused
+  where
+    same : (a : Option Told) → IsTold (λ t. InstanceText t.instance i) a → WhereTold (λ t. InstanceText t.instance bad.instance) a → bad.instance ≡ i
+    same None x y = absurd x
+    same (Some t) x y = one_instance t.instance bad.instance i y x
+
+    of_body : (body : List ℕ) (o : Option (List ℕ)) → o ≡ Some body → IsRefusedLoad bad.instance (budget_of c.words) (gap_of c.words) o bad.refusal bad.line → IsRefused bad.instance (budget_of c.words) (gap_of c.words) body bad.refusal bad.line
+    of_body body None e x = absurd cc
+    of_body body (Some b) e x = let f : b ≡ body = cc in subst (λ (y : List ℕ). IsRefused bad.instance (budget_of c.words) (gap_of c.words) y bad.refusal bad.line) f x
+
+    go : (s : Option SlotsTold)
+        → IsTold (λ t. (body : List ℕ) × ((loaded t ≡ Some body) × ((tree : Tree) × (tour : List ℕ) × IsResumed i (budget_of c.words) (gap_of c.words) body tree tour))) s
+        → WhereTold (λ t. IsRefusedLoad bad.instance (budget_of c.words) (gap_of c.words) (loaded t) bad.refusal bad.line) s → ⊥
+    go None x y = x
+    go (Some t) (body, (e, (tree, tour, is))) y =
+        reading i (budget_of c.words) (gap_of c.words) body tree tour bad.refusal bad.line is
+        (subst (λ (j : Instance). IsRefused j (budget_of c.words) (gap_of c.words) body bad.refusal bad.line) (same c.before.desk told bad.bytes_read) (of_body body (loaded t) e y))
+
+solve_completes : OneReading → (s : Status) (c : Call) → Ends s c → HasCauses s c → SolveCompletes s c
+solve_completes reading s c ends causes = λ i call told may calm still. elim (ends.solve call) [
   | inl (e, x) ↦ inl e
   | inr (inl (e, x)) ↦ inr (inl e)
-  | inr (inr (inl (e, x))) ↦ absurd (not_bad (instance_word c.words) i c.before.desk c.after.desk told x.desk)
-  | inr (inr (inr (inl (e, x)))) ↦ absurd (no_fault (s ≡ status.ReadFault) _ _ causes.reads calm.reads e)
-  | inr (inr (inr (inr (inl (e, x))))) ↦ absurd (no_fault (s ≡ status.WriteFault) _ _ causes.writes calm.writes e)
-  | inr (inr (inr (inr (inr (inl (e, x)))))) ↦ absurd (no_fault (s ≡ status.StoreFault) _ _ causes.store still e)
-  | inr (inr (inr (inr (inr (inr (e, x)))))) ↦ inr (inr e)
+  | inr (inr (inl (e, x))) ↦ inr (inr (inl e))
+  | inr (inr (inr (inl (e, x)))) ↦ absurd (not_bad (instance_word c.words) i c.before.desk c.after.desk told x.desk)
+  | inr (inr (inr (inr (inl (e, x))))) ↦ absurd (not_refused_body reading i c may x told)
+  | inr (inr (inr (inr (inr (inl (e, x)))))) ↦ absurd (no_fault (s ≡ status.ReadFault) _ _ causes.reads calm.reads e)
+  | inr (inr (inr (inr (inr (inr (inl (e, x))))))) ↦ absurd (no_fault (s ≡ status.WriteFault) _ _ causes.writes calm.writes e)
+  | inr (inr (inr (inr (inr (inr (inr (inl (e, x)))))))) ↦ absurd (no_fault (s ≡ status.StoreFault) _ _ causes.store still e)
+  | inr (inr (inr (inr (inr (inr (inr (inr (e, x)))))))) ↦ inr (inr (inr e))
+]
+
+-- a search that began with a body had one
+not_begun : OneReading → (i : Instance) (c : Call) (j : Instance) (st : Start) (refusal line : ℕ) → resumes c.words ≡ true → Begins c j st → WhereTold (λ t. InstanceText t.instance j) c.before.desk
+    → DeskTold (λ t. InstanceText t.instance i) c → IsTold (λ t. IsRefusedLoad i (budget_of c.words) (gap_of c.words) (loaded t) refusal line) c.before.slots → ⊥
+not_begun reading i c j st refusal line asked begins read told refused = go c.before.slots refused (begins.resumed asked)
+  where
+    same : (a : Option Told) → IsTold (λ t. InstanceText t.instance i) a → WhereTold (λ t. InstanceText t.instance j) a → j ≡ i
+    same None x y = absurd x
+    same (Some t) x y = one_instance t.instance j i y x
+
+    of_body : (body : List ℕ) (o : Option (List ℕ)) → o ≡ Some body → IsRefusedLoad i (budget_of c.words) (gap_of c.words) o refusal line → IsRefused i (budget_of c.words) (gap_of c.words) body refusal line
+    of_body body None e x = absurd cc
+    of_body body (Some b) e x = let f : b ≡ body = cc in subst (λ (y : List ℕ). IsRefused i (budget_of c.words) (gap_of c.words) y refusal line) f x
+
+    go : (s : Option SlotsTold) → IsTold (λ t. IsRefusedLoad i (budget_of c.words) (gap_of c.words) (loaded t) refusal line) s
+        → WhereTold (λ t. (body : List ℕ) × ((loaded t ≡ Some body) × GoesOnWith j (budget_of c.words) (gap_of c.words) body st)) s → ⊥
+    go None x y = x
+    go (Some t) x (body, (e, on)) =
+        reading i (budget_of c.words) (gap_of c.words) body st.tree on.tour refusal line
+        (subst (λ (k : Instance). IsResumed k (budget_of c.words) (gap_of c.words) body st.tree on.tour) (same c.before.desk told read) on.resumed)
+        (of_body body (loaded t) e x)
+
+refused_completes : OneReading → (s : Status) (c : Call) → Ends s c → HasCauses s c → RefusedCompletes s c
+refused_completes reading s c ends causes = λ i refusal line call asked told refused calm still. elim (ends.solve call) [
+  | inl (e, x) ↦ absurd (not_begun reading i c x.instance x.start refusal line asked x.begins x.bytes_read told refused)
+  | inr (inl (e, x)) ↦ absurd (not_begun reading i c x.instance x.start refusal line asked x.begins x.bytes_read told refused)
+  | inr (inr (inl (e, x))) ↦ absurd (not_begun reading i c x.instance x.start refusal line asked x.begins x.bytes_read told refused)
+  | inr (inr (inr (inl (e, x)))) ↦ absurd (not_bad (instance_word c.words) i c.before.desk c.after.desk told x.desk)
+  | inr (inr (inr (inr (inl (e, x))))) ↦ inl e
+  | inr (inr (inr (inr (inr (inl (e, x)))))) ↦ absurd (no_fault (s ≡ status.ReadFault) _ _ causes.reads calm.reads e)
+  | inr (inr (inr (inr (inr (inr (inl (e, x))))))) ↦ absurd (no_fault (s ≡ status.WriteFault) _ _ causes.writes calm.writes e)
+  | inr (inr (inr (inr (inr (inr (inr (inl (e, x)))))))) ↦ absurd (no_fault (s ≡ status.StoreFault) _ _ causes.store still e)
+  | inr (inr (inr (inr (inr (inr (inr (inr (e, x)))))))) ↦ inr e
 ]
 
 tour_completes : (s : Status) (c : Call) → Ends s c → HasCauses s c → TourCompletes s c
@@ -66,9 +130,6 @@ small_bench_completes s c ends causes = λ call small calm. elim (ends.bench cal
 ]
 
 -- ---- a proof
-
-one_instance : (bytes : List ℕ) (i j : Instance) → InstanceText bytes i → InstanceText bytes j → i ≡ j
-one_instance bytes i j p q = let e : Ok i ≡ Ok j = sym p ∙ q in cc
 
 abbrev AcceptedAs : Instance → ℕ → ℕ → Told → Type 0
 AcceptedAs i l b t = InstanceText t.instance i × IsAcceptedText i t.proof_in l b
@@ -122,12 +183,13 @@ accepted_completes s c ends causes = λ i l m call told calm. elim (ends.verify 
 ]
 
 -- a call of `run` that ends so, and by these causes
-pub runs_so : (s : Status) (c : Call) → Ends s c → HasCauses s c → Runs s c
-runs_so s c ends causes = record {
+pub runs_so : OneReading → (s : Status) (c : Call) → Ends s c → HasCauses s c → Runs s c
+runs_so reading s c ends causes = record {
   ends = ends;
   causes = causes;
   completes = record {
-    solve = solve_completes s c ends causes;
+    solve = solve_completes reading s c ends causes;
+    refused_body = refused_completes reading s c ends causes;
     verify = verify_completes s c ends causes;
     accepted = accepted_completes s c ends causes;
     tour = tour_completes s c ends causes;

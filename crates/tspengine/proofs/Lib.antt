@@ -2,6 +2,8 @@ mod Fronts
 mod Writing
 mod InstanceReads
 mod Storing
+mod Rounds
+mod Beginnings
 mod Solves
 mod Tours
 mod Benches

@@ -3,7 +3,13 @@ pub mod Calls
 pub mod Steps
 pub mod Texts
 pub mod Drawn
+pub mod Growth
+pub mod Starts
+pub mod Saves
 pub mod Outcomes
+pub mod Searches
+pub mod Rounds
+pub mod Begun
 pub mod Readings
 pub mod Solving
 pub mod Touring

@@ -3,7 +3,7 @@ use Rattle.std.specs.Prelude.{◌≡◌, ◌⊎◌}
 use Rattle.ports.specs.Outside.{Cause}
 use Rattle.tspwords.specs.Program.{IsTaken, IsSolveCall, IsVerifyCall, IsTourCall, IsBenchCall}
 use Rattle.tspengine.specs.Calls.{Call}
-use Rattle.tspengine.specs.Solving.{Solves, SolveCompletes}
+use Rattle.tspengine.specs.Solving.{Solves, SolveCompletes, RefusedCompletes}
 use Rattle.tspengine.specs.Verifying.{Verifies, VerifyCompletes, AcceptedCompletes}
 use Rattle.tspengine.specs.Touring.{Tours, TourCompletes}
 use Rattle.tspengine.specs.Benching.{Benches, BenchCompletes, SmallBenchCompletes}
@@ -30,6 +30,7 @@ pub record HasCauses (s : Status) (c : Call) : Type 0 where
 -- Where nothing fails, each command does what it is for.
 pub record Completes (s : Status) (c : Call) : Type 0 where
   pub solve : SolveCompletes s c
+  pub refused_body : RefusedCompletes s c
   pub verify : VerifyCompletes s c
   pub accepted : AcceptedCompletes s c
   pub tour : TourCompletes s c

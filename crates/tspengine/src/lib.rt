@@ -1,6 +1,6 @@
 //! The engine: a command line, a desk and slots in, an answer out.
 //!
-//! `specs/Headline.antt` says what holds where it answers Optimal, Stopped, Toured, Benched or BenchStopped, a record each; where
+//! `specs/Headline.antt` says what holds where it answers Optimal, Within, Stopped, Toured, Benched or BenchStopped, a record each; where
 //! it answers Verified or Refused, that of `verification` does.
 //!
 //! - [`run`] reads the words, does what they say, and ends with a [`Status`]. `specs/Runs.antt` is its contract, a line a command.
@@ -10,7 +10,9 @@ mod benching;
 mod outcomes;
 mod publishing;
 mod running;
+mod searching;
 mod solving;
+mod starting;
 mod statuses;
 mod texts;
 mod touring;
@@ -26,5 +28,7 @@ mod changed_bytes;
 mod failing_calls;
 #[cfg(test)]
 mod fixed_edges;
+#[cfg(test)]
+mod resumed_runs;
 #[cfg(test)]
 mod tests;

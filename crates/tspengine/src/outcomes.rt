@@ -1,114 +1,119 @@
-//! From an instance to a proof that a tour is shortest, or to a body to go on from.
-ghost use Rattle.std.specs.Prelude.{◌≡◌, ℕ, ◌<◌, ◌≤◌, List, IfOk, length};
-ghost use Rattle.tspdef.specs.Instances.{length_in};
-ghost use Rattle.tspdef.specs.Trees.{open_leaves, settled};
-ghost use Rattle.opening.specs.Openings.{IsOpeningTour};
+//! From a search to a proof that no tour is shorter than a bound, or to a body to go on from.
+ghost use Rattle.std.specs.Prelude.{◌≡◌, ◌+◌, ◌*◌, ◌<◌, ◌≤◌, IfOk, length};
+ghost use Rattle.tspdef.specs.Trees.{open_leaves};
+ghost use Rattle.treebook.specs.Laws.{IsGreatestBound};
 ghost use Rattle.treebook.specs.Tables.{tree_of};
-ghost use Rattle.certform.specs.Written.{IsBody};
-ghost use Rattle.worker.specs.Splits.{IsNeededSplit};
-ghost use Rattle.treesearch.specs.Searches.{IsFound};
+ghost use Rattle.bossx.specs.Books.{best_length};
+ghost use Rattle.tspengine.specs.Searches.{start_in, IsSearch, IsTextOfBook};
 ghost use Rattle.tspengine.specs.Outcomes.{IsOutcome, IsProof};
 
-use crate::texts::{length_text, optimal_text, stopped_text};
+use crate::texts::{closed_text, length_text, stopped_text};
+use bossx::Boss;
 use certdef::closed_is_accepted;
 use certform::{body, tables_fit, written_is_faithful};
-use cutpool::CutPool;
-use grunt::LpWorker;
-use opening::find_opening;
 use std::alloc::{AllocError, Global};
-use treesearch::{Found, search, searches_of_few_cities_end};
+use treebook::tables_are_sound;
 use tspdef::{accepted_is_below, tours_are_cycles};
-use tspinst::Instance;
 
-/// What came of an instance, with the text to print.
+/// What came of a search.
 #[derive(Drop)]
 pub enum Outcome {
-    /// The proof that a tour is shortest, and the line of its length alone.
-    Optimal {
-        proof: Vec<u8>,
-        printed: Vec<u8>,
-        line: Vec<u8>,
-    },
-    /// The body to go on from.
-    Stopped {
-        body: Vec<u8>,
-        printed: Vec<u8>,
-    },
+    /// No node is open.
+    Closed(Closed),
+    /// The budget is settled and a node is open: the body to go on from, and the text to print.
+    Stopped { body: Vec<u8>, printed: Vec<u8> },
 }
 
-/// Searches within a budget from the tour that a seed gives, with one pool of cuts for all nodes, and writes down what was found.
-pub(crate) fn outcome_of(
-    alloc: Global,
-    instance: &Instance,
-    budget: u32,
-    seed: u64,
-) -> Result<Outcome, AllocError>
-    requires { budget ≤ 65536 }
-    ensures outcome { IfOk result (IsOutcome instance.now budget) }
-    ensures small { instance.now.n ≤ 5 → 2047 ≤ budget → IfOk result IsProof }
+/// A proof that no tour is shorter than a bound, which is the tour's length or misses it by no more than the gap.
+#[derive(Drop)]
+pub struct Closed {
+    pub length: u64,
+    pub bound: u64,
+    pub proof: Vec<u8>,
+    /// The answer with the tour.
+    pub printed: Vec<u8>,
+    /// The line of the length alone.
+    pub line: Vec<u8>,
+}
+
+/// The text of a search's best tour and tree, with the bound that it shows.
+#[derive(Drop)]
+pub(crate) struct SearchText {
+    pub(crate) bytes: Vec<u8>,
+    pub(crate) bound: u64,
+}
+
+/// What came of a search that has ended: no node is open, or the budget is settled.
+pub(crate) fn outcome_of(alloc: Global, boss: &Boss) -> Result<Outcome, AllocError>
+    requires search { IsSearch boss.now }
+    requires ended { 0 < open_leaves (tree_of boss.now.tree.nodes) → boss.now.settled ≡ boss.now.budget }
+    ensures outcome { IfOk result (IsOutcome boss.now.instance boss.now.budget boss.now.gap (start_in boss.now)) }
+    ensures closed { open_leaves (tree_of boss.now.tree.nodes) ≡ 0 → IfOk result IsProof }
 {
-    searches_of_few_cities_end();
-    let opening = find_opening(alloc, instance, seed)?;
-    let mut pool = CutPool::new(alloc, instance.n());
-    let found = search(alloc, instance, opening, &LpWorker, &mut pool, budget, seed)?;
-    let body = body(alloc, instance, &found.best, &found.tree, found.length)?;
-    if found.tree.open_nodes() == 0 {
-        optimal(alloc, instance, &found, body)
+    let text = text_of(alloc, boss)?;
+    let (_, tree) = boss.snapshot();
+    if tree.open_nodes() == 0 {
+        Ok(Outcome::Closed(proof_of(alloc, boss, text)?))
     } else {
-        stopped(alloc, instance, budget, &found, body)
+        let printed = stopped_text(alloc, boss.best_length(), tree.open_nodes())?;
+        Ok(Outcome::Stopped {
+            body: text.bytes,
+            printed,
+        })
     }
 }
 
-/// The body has no open leaf: it is a proof.
-fn optimal(
-    alloc: Global,
-    instance: &Instance,
-    found: &Found,
-    proof: Vec<u8>,
-) -> Result<Outcome, AllocError>
-    requires found { IsFound IsNeededSplit instance.now found.now }
-    requires few { length found.now.tree.nodes ≤ 1048576 }
-    requires none_open { open_leaves (tree_of found.now.tree.nodes) ≡ 0 }
-    requires proof { IsBody instance.now found.now.best found.now.length (tree_of found.now.tree.nodes) proof.items }
-    ensures outcome { (budget : ℕ) → settled (tree_of found.now.tree.nodes) ≤ budget → IfOk result (IsOutcome instance.now budget) }
-    ensures proof { IfOk result IsProof }
+/// The text of a search at any time: with no node open it is a proof, else a body to go on from.
+pub(crate) fn text_of(alloc: Global, boss: &Boss) -> Result<SearchText, AllocError>
+    requires { IsSearch boss.now }
+    ensures { IfOk result (λ w. IsTextOfBook boss.now w.bound w.bytes.items) }
+{
+    tables_fit();
+    written_is_faithful();
+    tours_are_cycles();
+    tables_are_sound();
+    let bound = bound_of(boss);
+    let _instance = boss.instance().n();
+    let (tour, tree) = boss.snapshot();
+    let _count = tree.nodes();
+    let bytes = body(alloc, boss.instance(), tour, tree, bound)?;
+    Ok(SearchText { bytes, bound })
+}
+
+/// The greatest bound, at most the best tour's length, that the tree bears: without a gap the length itself, and no leaf is priced.
+fn bound_of(boss: &Boss) -> u64
+    ensures { IsGreatestBound boss.now.instance (best_length boss.now) (tree_of boss.now.tree.nodes) result }
+{
+    tables_are_sound();
+    let (_, tree) = boss.snapshot();
+    let length = boss.best_length();
+    if boss.gap() == 0 {
+        return length;
+    }
+    tree.greatest_bound(boss.instance(), length)
+}
+
+/// The proof, with the texts to print.
+fn proof_of(alloc: Global, boss: &Boss, text: SearchText) -> Result<Closed, AllocError>
+    requires text { IsTextOfBook boss.now text.bound text.bytes.items }
+    requires none_open { open_leaves (tree_of boss.now.tree.nodes) ≡ 0 }
+    ensures { IfOk result (λ c. IsOutcome boss.now.instance boss.now.budget boss.now.gap (start_in boss.now) (Outcome.Closed c)) }
 {
     accepted_is_below();
     closed_is_accepted();
     tours_are_cycles();
-    tables_fit();
-    written_is_faithful();
-    let _known = (instance.n(), found.tree.n(), found.tree.nodes());
-    let tour = found.best.canonical(alloc)?;
-    let printed = optimal_text(alloc, found.length, tour.cities())?;
-    let line = length_text(alloc, found.length)?;
-    Ok(Outcome::Optimal {
-        proof,
+    let _instance = boss.instance().n();
+    let SearchText { bytes, bound } = text;
+    let length = boss.best_length();
+    let (best, _) = boss.snapshot();
+    let tour = best.canonical(alloc)?;
+    let printed = closed_text(alloc, length, bound, tour.cities())?;
+    let line = length_text(alloc, length)?;
+    Ok(Closed {
+        length,
+        bound,
+        proof: bytes,
         printed,
         line,
     })
-}
-
-/// The budget is settled, and a leaf of the body is open.
-fn stopped(
-    alloc: Global,
-    instance: &Instance,
-    budget: u32,
-    found: &Found,
-    body: Vec<u8>,
-) -> Result<Outcome, AllocError>
-    requires found { IsFound IsNeededSplit instance.now found.now }
-    requires few { length found.now.tree.nodes ≤ 1048576 }
-    requires some_open { 0 < open_leaves (tree_of found.now.tree.nodes) }
-    requires settled { settled (tree_of found.now.tree.nodes) ≡ budget }
-    requires body { IsBody instance.now found.now.best found.now.length (tree_of found.now.tree.nodes) body.items }
-    ensures { (opening : List ℕ) → IsOpeningTour instance.now opening → found.now.length ≤ length_in instance.now opening
-        → IfOk result (IsOutcome instance.now budget) }
-{
-    tours_are_cycles();
-    tables_fit();
-    written_is_faithful();
-    let _known = (instance.n(), found.tree.n(), found.tree.nodes());
-    let printed = stopped_text(alloc, found.length, found.tree.open_nodes())?;
-    Ok(Outcome::Stopped { body, printed })
 }

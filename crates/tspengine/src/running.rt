@@ -9,6 +9,7 @@ use crate::touring::tour;
 use crate::usage::usage;
 use crate::verifying::verify;
 use ports::{Desk, Slots};
+use resume_form::bodies_have_one_reading;
 use std::alloc::Global;
 use tspwords::{Command, WordsError, read_command, taken_words_are_given};
 
@@ -58,6 +59,7 @@ pub fn run<R, D: Desk, L: Slots>(
       };
     }) }
 {
+    bodies_have_one_reading();
     taken_words_are_given();
     match read_command(alloc, words) {
         Ok(Command::Solve(words)) => solve(alloc, &words, desk, slots),

@@ -11,6 +11,9 @@ use verification::VerifyStatus;
 pub enum Status {
     /// A shortest tour was printed, and its proof written.
     Optimal,
+    /// A tour was printed with a bound that is below its length by no more than the gap: no tour is shorter than the bound, and the proof
+    /// of that is written.
+    Within,
     /// The proof is accepted, and no tour is shorter than the printed length.
     Verified,
     /// The proof is accepted, and no tour is shorter than the printed bound, which is below the printed length.
@@ -23,6 +26,8 @@ pub enum Status {
     Usage,
     /// The bytes of the instance are not an instance's text.
     BadInstance,
+    /// A search was to go on, and the slots hold no body to go on from; the first refusal and its line were printed.
+    BadRestart,
     /// The bytes of the proof are no proof for the instance; the first refusal and its line were printed.
     Refused,
     /// The budget is spent and a node is open; the slots hold a body to go on from.
@@ -48,13 +53,13 @@ impl Status {
             Status::Optimal | Status::Verified | Status::Toured | Status::Benched => 0,
             Status::Usage => 2,
             Status::BadInstance => 3,
-            Status::Refused => 4,
+            Status::BadRestart | Status::Refused => 4,
             Status::Stopped | Status::BenchStopped => 5,
             Status::ReadFault => 6,
             Status::WriteFault => 7,
             Status::StoreFault => 8,
             Status::NoMemory => 9,
-            Status::VerifiedWithin => 10,
+            Status::Within | Status::VerifiedWithin => 10,
         }
     }
 }

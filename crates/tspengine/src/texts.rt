@@ -9,13 +9,51 @@ use std::alloc::{AllocError, Global};
 pub(crate) const USAGE: &str = "USAGE tspc solve/verify/tour/bench\n";
 
 /// A shortest tour and its length.
-pub(crate) fn optimal_text(alloc: Global, length: u64, tour: &[u32]) -> Result<Vec<u8>, AllocError>
+fn optimal_text(alloc: Global, length: u64, tour: &[u32]) -> Result<Vec<u8>, AllocError>
     ensures { IfOk result (λ t. t.items ≡ texts.optimal_text length tour.now) }
 {
     let mut text = format!(in alloc; "OPTIMAL {length}\nTOUR")?;
     push_cities(alloc, &mut text, tour)?;
     text.push_str("\n")?;
     Ok(text.into_bytes())
+}
+
+/// A tour, its length and a bound: where they are equal, a shortest one.
+pub(crate) fn closed_text(
+    alloc: Global,
+    length: u64,
+    bound: u64,
+    tour: &[u32],
+) -> Result<Vec<u8>, AllocError>
+    ensures { IfOk result (λ t. t.items ≡ texts.closed_text length bound tour.now) }
+{
+    if bound == length {
+        optimal_text(alloc, length, tour)
+    } else {
+        within_text(alloc, length, bound, tour)
+    }
+}
+
+/// A tour, its length, and a bound below it.
+fn within_text(
+    alloc: Global,
+    length: u64,
+    bound: u64,
+    tour: &[u32],
+) -> Result<Vec<u8>, AllocError>
+    ensures { IfOk result (λ t. t.items ≡ texts.within_text length bound tour.now) }
+{
+    let mut text = format!(in alloc; "WITHIN {length} {bound}\nTOUR")?;
+    push_cities(alloc, &mut text, tour)?;
+    text.push_str("\n")?;
+    Ok(text.into_bytes())
+}
+
+/// The first refusal of a body, and its line.
+pub(crate) fn restart_text(alloc: Global, refusal: u32, line: u64) -> Result<Vec<u8>, AllocError>
+    ensures { IfOk result (λ t. t.items ≡ texts.restart_text refusal line) }
+{
+    Ok(format!(in alloc; "RESTART {refusal} {line}\n")?.into_bytes())
 }
 
 /// Each city, from 1, behind a space.

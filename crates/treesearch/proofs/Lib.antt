@@ -1,3 +1,0 @@
-pub mod Needs
-pub mod Lengths
-pub mod Few

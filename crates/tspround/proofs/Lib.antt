@@ -1,0 +1,6 @@
+pub mod Growing
+pub mod Reports
+pub mod Runs
+pub mod Turns
+pub mod Lengths
+pub mod Few

@@ -1,0 +1,62 @@
+-- A turn: a tour is offered, and then a report is taken.
+use Rattle.std.proofs.Common.{◌≡◌, ℕ, ◌-◌, ◌<◌, ◌≤◌, Option, None, List, sym, subst, ap, ◌∙◌, arith}
+use Rattle.tspdef.specs.Instances.{Instance}
+use Rattle.pricer.specs.declared.closing.Report.{Report}
+use Rattle.treebook.specs.Tree as trees
+use Rattle.treebook.specs.Tables.{IsOpen, path_at, tree_of}
+use Rattle.treebook.specs.Laws.{OpenNodesAreOpenLeaves, ClosingKeepsTables, SplittingKeepsTables}
+use Rattle.bossx.specs.declared.brought.Brought.TheVariants.{Plain}
+use Rattle.bossx.specs.Books.{Book, Start, best_length, path_in, taken}
+use Rattle.bossx.specs.Judging.{MayBeTaken}
+use Rattle.bossx.specs.Kept.{IsBook, IsTreeOf}
+use Rattle.worker.specs.Splits.{Splits, StayForMore}
+use Rattle.worker.specs.Works.{IsReport, SplitsOnly, best_after}
+use Rattle.tspround.specs.Splits.{SplitSince}
+use Rattle.tspround.specs.Alone.{IsOffered, IsReported, IsSplitBy, IsTurn, report_over}
+use Rattle.tspround.proofs.Reports.{may_be_taken, over_splits, only_more, taking_grows}
+use Rattle.tspround.proofs.Runs.{turn_of}
+
+-- what an offer does not change
+moved : (b mid : Book) (tour : Option (List ℕ)) → IsOffered tour b mid → (P : Instance → trees.Table → Start → ℕ → Type 0)
+    → P b.instance b.tree b.start b.gap → P mid.instance mid.tree mid.start mid.gap
+moved b mid tour o P p =
+    subst (λ (x : Instance). P x mid.tree mid.start mid.gap) (sym o.start.instance)
+    (subst (λ (x : trees.Table). P b.instance x mid.start mid.gap) (sym o.tree)
+    (subst (λ (x : Start). P b.instance b.tree x mid.gap) (sym o.start.start)
+    (subst (λ (x : ℕ). P b.instance b.tree b.start x) (sym o.start.gap) p)))
+
+-- a sure worker's report may be taken once its tour is offered
+pub taken_after_offer : (b mid : Book) (tour : Option (List ℕ)) (node : ℕ) (r : Report) → IsOffered tour b mid → IsOpen b.tree.nodes node → b.settled < b.budget
+    → IsReport b.instance (path_in b node) (best_after b.instance (best_length b) tour - b.gap) r → MayBeTaken mid node (Plain (report_over mid.instance.n r))
+taken_after_offer b mid tour node r o is_open left is =
+    let most = best_after b.instance (best_length b) tour in
+    let same = o.settled in
+    let budget = o.start.budget in
+    let at = moved b mid tour o (λ i t s gap. IsReport i (path_at t.fixed t.nodes node) (most - gap) r) is in
+    may_be_taken mid node r (moved b mid tour o (λ i t s gap. IsOpen t.nodes node) is_open) (omega (arith, same, budget, left))
+    (subst (λ (m : ℕ). IsReport mid.instance (path_in mid node) (m - mid.gap) r) (sym o.best) at)
+
+-- and keeps that each split is one that may be
+turn_splits : OpenNodesAreOpenLeaves → ClosingKeepsTables → SplittingKeepsTables → (S : Splits) → StayForMore S → (b mid : Book) (tour : Option (List ℕ)) (node : ℕ) (r : Report)
+    → IsBook b → IsOffered tour b mid → MayBeTaken mid node (Plain (report_over mid.instance.n r)) → SplitsOnly S b.instance (path_in b node) (best_length b) r b.gap
+    → IsSplitBy S b → IsSplitBy S (taken mid None node (Plain (report_over mid.instance.n r)))
+turn_splits leaves closing splitting S stay b mid tour node r k o may only split =
+    let more = only_more S stay b.instance (path_in b node) (best_length b) b.start.length b.gap r k.no_longer only in
+    let there = moved b mid tour o (λ i t s gap. SplitsOnly S i (path_at t.fixed t.nodes node) s.length r gap) more in
+    taking_grows leaves closing splitting S mid node (report_over mid.instance.n r) (moved b mid tour o (λ i t s gap. IsTreeOf i t) k.tree) may
+    (over_splits S mid.instance (path_in mid node) mid.start.length mid.gap r there)
+    (moved b mid tour o (λ i t s gap. SplitSince S i s.length gap (tree_of s.nodes) (tree_of t.nodes)) split)
+
+-- the report as it is handed in, with its set over the instance's cities
+pub over_in : (i : Instance) (b mid : Book) (tour : Option (List ℕ)) (r told over : Report) → IsOffered tour b mid → i ≡ b.instance → told ≡ r → over ≡ report_over i.n told
+    → over ≡ report_over mid.instance.n r
+over_in i b mid tour r told over o same tells is =
+    is ∙ ap (λ (x : Report). report_over i.n x) tells ∙ ap (λ (x : Instance). report_over x.n r) (same ∙ sym o.start.instance)
+
+pub turn_done : OpenNodesAreOpenLeaves → ClosingKeepsTables → SplittingKeepsTables → (S : Splits) → StayForMore S → (b mid new : Book) (tour : Option (List ℕ)) (node : ℕ) (r over : Report)
+    → IsBook b → IsOffered tour b mid → over ≡ report_over mid.instance.n r → MayBeTaken mid node (Plain over) → IsReported node over mid new
+    → SplitsOnly S b.instance (path_in b node) (best_length b) r b.gap → IsTurn S b new
+turn_done leaves closing splitting S stay b mid new tour node r over k o is may p only =
+    let so = subst (λ (x : Report). MayBeTaken mid node (Plain x)) is may in
+    turn_of S b mid new tour node over o p
+    (subst (λ (x : Report). IsSplitBy S b → IsSplitBy S (taken mid None node (Plain x))) (sym is) (turn_splits leaves closing splitting S stay b mid tour node r k o so only))
