@@ -12,21 +12,23 @@ budget=${3:-65536}
 box=${BOX:-CutPool}
 [ "$box" = NoCuts ] && shared_box='NoCuts' || shared_box='CutPool::new(rt.alloc(), instance.n())'
 . "$top/bench/workspace.sh"
-workspace effort 'ports tspdef distx cyc tspinst neigh linkern cutform cutpool branchx pricer lpcheck simplex treebook pathtour opening worker grunt treesearch anyhow'
+workspace effort 'ports tspdef distx cyc tspinst neigh linkern cutform cutpool branchx pricer lpcheck simplex treebook leasebook tournament bossx pathtour opening worker grunt tspround anyhow'
 cat >"$work/crates/effort/src/main.rt" <<'RT'
 //! effort INSTANCE BUDGET: cities, nodes settled and left open, the best length, rounds, rows of subtour cuts, of combs with pairs
 //! as teeth, of other combs, columns, the most rounds of a node, and milliseconds of the processor.
 #![tactic(auto)]
 
 use anyhow::{Result, anyhow, bail};
+use bossx::Boss;
 use cutpool::KIND;
 use grunt::LpWorker;
-use opening::find_opening;
+use opening::{Opening, find_opening};
 use ports::{Desk, FileDesk, Inlet};
 use std::env;
 use std::time::CpuClock;
-use treesearch::search;
+use treebook::Tree;
 use tspinst::{ReadError, read};
+use tspround::{Effort, alone_counted, nothing_is_split_at_the_start};
 
 fn main(rt: HostRuntime) -> Result<()> {
     let mut words = Vec::new(rt.alloc());
@@ -51,15 +53,21 @@ fn main(rt: HostRuntime) -> Result<()> {
         Err(ReadError::NoMemory) => bail!("no memory"),
     };
     let start = rt.thread_cpu_time()?;
-    let opening = find_opening(rt.alloc(), &instance, 1)?;
+    nothing_is_split_at_the_start::<LpWorker>();
+    let Opening { near, tour } = find_opening(rt.alloc(), &instance, 1)?;
+    let tree = Tree::with_fixed(rt.alloc(), instance.n(), instance.fixed())?;
+    let boss = Boss::start(rt.alloc(), &instance, tree, tour, budget, 1, 0)?;
     let mut shared = MADE;
-    let found = search(rt.alloc(), &instance, opening, &LpWorker, &mut shared, budget, 1)?;
+    let mut c = Effort::none();
+    let boss = alone_counted(
+        rt.alloc(), boss, &mut shared, &instance, &near, &LpWorker, budget, 1, 0, &mut c,
+    )?;
     let end = rt.thread_cpu_time()?;
     let took = end.saturating_sub(start).as_millis();
-    let c = found.effort;
+    let (_, tree) = boss.snapshot();
     println!(rt;
         "{} {} {} {} {} {} {} {} {} {} {took}",
-        instance.n(), found.tree.settled(), found.tree.open_nodes(), found.length,
+        instance.n(), boss.settled(), tree.open_nodes(), boss.best_length(),
         c.rounds, c.subtours, c.blossoms, c.combs, c.columns, c.most_rounds
     )?;
     Ok(())

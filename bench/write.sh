@@ -8,25 +8,26 @@
 set -eu
 top=$(cd "$(dirname "$0")/.." && pwd)
 . "$top/bench/workspace.sh"
-workspace writebench 'tspdef cyc distx tspinst neigh linkern cutform cutpool branchx pricer lpcheck simplex treebook pathtour opening worker treesearch certform anyhow'
+workspace writebench 'tspdef cyc distx tspinst neigh linkern cutform cutpool branchx pricer lpcheck simplex treebook leasebook tournament bossx pathtour opening worker tspround certform anyhow'
 cat >"$work/crates/writebench/src/main.rt" <<'RT'
 //! writebench: times the writing of two bodies. Prints for each its name, its bytes and the best time in microseconds.
 #![tactic(auto)]
 
 use anyhow::{Result, bail};
+use bossx::Boss;
 use branchx::Branch;
 use certform::body;
 use cutform::Cut;
 use cutpool::NoCuts;
 use cyc::{CitySet, Tour};
 use distx::{Kind, Point};
-use opening::find_opening;
+use opening::{Opening, find_opening};
 use pricer::{Closing, Fit};
 use std::alloc::Global;
 use std::time::Instant;
 use treebook::{State, Tree};
-use treesearch::search;
 use tspinst::{Instance, from_points};
+use tspround::{alone, nothing_is_split_at_the_start};
 use worker::PlainWorker;
 
 const N: u32 = 2000;
@@ -122,11 +123,12 @@ fn time(rt: &HostRuntime, instance: &Instance, tour: &Tour, tree: &Tree) -> Resu
     if tour.n() != instance.n() || tree.n() != instance.n() || tree.nodes() > 1_048_576 {
         bail!("cities");
     }
+    let length = instance.length(tour);
     let mut best = u128::MAX;
     let mut bytes = 0;
     for _ in 0..10 {
         let start = Instant::now(rt)?;
-        let text = body(rt.alloc(), instance, tour, tree)?;
+        let text = body(rt.alloc(), instance, tour, tree, length)?;
         best = best.min(start.elapsed(rt)?.as_micros());
         bytes = text.len();
     }
@@ -135,9 +137,15 @@ fn time(rt: &HostRuntime, instance: &Instance, tour: &Tour, tree: &Tree) -> Resu
 
 fn searched(rt: &HostRuntime) -> Result<()> {
     let instance = instance(rt.alloc(), 200)?;
-    let opening = find_opening(rt.alloc(), &instance, 1)?;
-    let found = search(rt.alloc(), &instance, opening, &PlainWorker, &mut NoCuts, 65536, 1)?;
-    let (bytes, best) = time(rt, &instance, &found.best, &found.tree)?;
+    nothing_is_split_at_the_start::<PlainWorker>();
+    let Opening { near, tour } = find_opening(rt.alloc(), &instance, 1)?;
+    let tree = Tree::with_fixed(rt.alloc(), instance.n(), instance.fixed())?;
+    let boss = Boss::start(rt.alloc(), &instance, tree, tour, 65536, 1, 0)?;
+    let boss = alone(
+        rt.alloc(), boss, &mut NoCuts, &instance, &near, &PlainWorker, 65536, 1, 0,
+    )?;
+    let (tour, tree) = boss.snapshot();
+    let (bytes, best) = time(rt, &instance, tour, tree)?;
     println!(rt; "search {bytes} {best}")?;
     Ok(())
 }

@@ -6,7 +6,7 @@ use Rattle.tspdef.specs.Paths.{Condition, absent, present, two, four, is_decided
 use Rattle.tspdef.specs.Trees.{Tree, open_leaf, closed_leaf, edge_split, clique_split, IsSound, open_leaves, settled}
 use Rattle.tspdef.specs.Bounds.{needed}
 use Rattle.treebook.specs.Tables.{tree_of}
-use Rattle.bossx.specs.Books.{Book, level}
+use Rattle.bossx.specs.Books.{level}
 use Rattle.worker.specs.Splits.{IsNeededSplit}
 use Rattle.worker.proofs.PathCounts.{open_pairs, pairs_most, pairs_drop, decided_stays, decided_absent, decided_present}
 use Rattle.tspround.specs.Splits.{AllSplits, GrownBy, kinds_of}

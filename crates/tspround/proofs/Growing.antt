@@ -1,5 +1,5 @@
 -- Trees that grow at their open leaves.
-use Rattle.std.proofs.Common.{◌≡◌, ℕ, ◌≤◌, List, [], ◌∷◌, ◌++◌, refl, sym, subst, Some, arith}
+use Rattle.std.proofs.Common.{◌≡◌, ℕ, List, [], ◌∷◌, ◌++◌, refl, sym, subst, Some}
 use Rattle.tspdef.specs.Paths.{Condition, absent, present, two, four, fixed_conditions}
 use Rattle.tspdef.specs.Closings.{Closing, Fits}
 use Rattle.tspdef.specs.Trees.{Tree, open_leaf, closed_leaf, edge_split, clique_split, Side, first, second, open_path, with_leaf}

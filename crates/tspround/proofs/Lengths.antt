@@ -1,13 +1,14 @@
 -- How long tours are, and how many conditions on sets a node's path has.
-use Rattle.std.proofs.Common.{◌≡◌, ◌==◌, ℕ, zero, suc, ◌+◌, ◌*◌, ◌^◌, ◌<◌, ◌≤◌, Bool, true, false, cond, List, [], ◌∷◌, ◌++◌, length, map, refl, sym, ap, subst, ◌∙◌, arith}
+use Rattle.std.proofs.Common.{◌≡◌, ◌==◌, ℕ, zero, suc, ◌+◌, ◌*◌, ◌^◌, ◌<◌, ◌≤◌, Bool, true, false, cond, List, [], ◌∷◌, ◌++◌, length, map, refl, ap, arith}
 use Rattle.std.proofs.lemmas.List.{length-append, length-map}
-use Rattle.tspdef.specs.Paths.{Condition, fixed, absent, present, two, four, root, fixed_conditions}
+use Rattle.tspdef.specs.Paths.{Condition, fixed, absent, present, two, four, fixed_conditions}
 use Rattle.treebook.specs.Tables.{Node, IsOpen, way, way_within, parent_at, own_condition, path_at}
 use Rattle.worker.specs.Works.{BeginsAt, cliques}
 use Rattle.tspdef.specs.Tours.{walk, steps, travelled}
 use Rattle.tspdef.specs.Instances.{Instance, IsInstance, dist, length_in}
 use Rattle.bossx.specs.Books.{Book, best_length, path_in}
 use Rattle.bossx.specs.Kept.{IsBook}
+
 walk_length : (d : ℕ → ℕ → ℕ) → ((u v : ℕ) → d u v < 2 ^ 30) → (home here : ℕ) (cs : List ℕ) → travelled d (walk home here cs) ≤ (length cs + 1) * 2 ^ 30
 walk_length d small home here [] = let s = small here home in omega arith
 walk_length d small home here (c ∷ cs) = let s = small here c in let ih = walk_length d small home c cs in omega arith

@@ -1,28 +1,28 @@
 -- Reports of a sure worker, and what taking them does.
-use Rattle.std.proofs.Common.{◌≡◌, ℕ, ◌<◌, ◌≤◌, List, None, Some, Option, refl, sym, ap, subst, ◌∙◌, arith}
-use Rattle.tspdef.specs.Instances.{Instance, IsTourOf, length_in}
+use Rattle.std.proofs.Common.{ℕ, ◌<◌, ◌≤◌, List, None, refl, subst}
+use Rattle.tspdef.specs.Instances.{Instance}
 use Rattle.tspdef.specs.Paths.{Condition}
-use Rattle.tspdef.specs.Trees.{Tree}
 use Rattle.branchx.specs.declared.branch.Branch.TheVariants as branch
 use Rattle.branchx.specs.declared.branch.Branch as branches
 use Rattle.pricer.specs.declared.closing.Report.{Report}
 use Rattle.pricer.specs.declared.closing.Report.TheVariants as content
-use Rattle.treebook.specs.Tables.{Node, IsTable, IsOpen, MaySplit, path_at, tree_of}
+use Rattle.treebook.specs.Tables.{IsOpen, MaySplit, path_at, tree_of}
 use Rattle.treebook.specs.Tree.{branch_of}
 use Rattle.treebook.specs.Laws.{OpenNodesAreOpenLeaves, ClosingKeepsTables, SplittingKeepsTables}
 use Rattle.bossx.specs.declared.brought.Brought.TheVariants.{Plain}
-use Rattle.bossx.specs.declared.replies.Reported.{Reported}
+use Rattle.bossx.specs.declared.events.Event.TheVariants as event
+use Rattle.bossx.specs.declared.events.Reply.TheVariants as heard
 use Rattle.bossx.specs.declared.replies.Reported.TheVariants.{Taken}
 use Rattle.bossx.specs.Books.{Book, level, path_in, taken}
 use Rattle.bossx.specs.Judging.{BranchFits, ReportFits, Suffices, MayBeTaken}
-use Rattle.bossx.specs.Steps.{Reply, own, reported, asked, went, expired, offered, Step, own_taken}
+use Rattle.bossx.specs.Steps.{own_taken}
 use Rattle.bossx.specs.Kept.{IsTreeOf}
 use Rattle.bossx.specs.Laws.{StepsHaveNoChoice}
 use Rattle.worker.specs.Splits.{Splits, StayForMore}
 use Rattle.worker.specs.Works.{IsReport, SplitsOnly}
 use Rattle.tspround.specs.Splits.{kinds_of}
 use Rattle.tspround.specs.Alone.{IsSplitBy, HasProperSet, report_over}
-use Rattle.tspround.specs.Laws.{SureReportsAreTaken}
+use Rattle.tspround.specs.Laws.{SureWorkIsTaken}
 use Rattle.tspround.proofs.Growing.{closing_grows, splitting_grows}
 
 -- ---- they are taken
@@ -50,20 +50,10 @@ may_be_taken b node r is_open left is = record {
   suffices = report_suffices b node r is;
 }
 
--- the answer to a report
-told_by : Reply → Reported
-told_by (asked a) = Taken
-told_by (reported a) = a
-told_by (went a) = Taken
-told_by (expired a) = Taken
-told_by (offered a) = Taken
-
-pub sure_reports_taken : StepsHaveNoChoice → SureReportsAreTaken
-sure_reports_taken no_choice b new node r reply is_open left is step =
-    let may = may_be_taken b node r is_open left is in
-    let same = no_choice b new (taken b None node (Plain (report_over b.instance.n r))) (own node (report_over b.instance.n r)) (reported reply) (reported Taken) step (own_taken node (report_over b.instance.n r) may) in
-    let e : reply ≡ Taken = cc in
-    (e, same.1)
+pub sure_work_taken : StepsHaveNoChoice → SureWorkIsTaken
+sure_work_taken no_choice b new node r reply is_open left is step =
+    let over = report_over b.instance.n r in
+    no_choice b new (taken b None node (Plain over)) (event.Own node over) reply (heard.Reported Taken) step (own_taken node over (may_be_taken b node r is_open left is))
 
 -- ---- and the tree grows
 

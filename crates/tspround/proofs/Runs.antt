@@ -1,22 +1,25 @@
 -- Events in turn, and what they leave.
-use Rattle.std.proofs.Common.{◌≡◌, ℕ, ◌+◌, ◌<◌, ◌≤◌, Option, Some, None, List, [], ◌∷◌, ◌++◌, refl, sym, ◌∙◌, ap, subst, arith, ⊎_elim, ◌⊎◌}
+use Rattle.std.proofs.Common.{ℕ, ◌+◌, ◌<◌, ◌≤◌, Option, Some, None, List, [], ◌∷◌, ◌++◌, refl, sym, ◌∙◌, subst, arith, ⊎_elim, ◌⊎◌}
 use Rattle.std.proofs.lemmas.Bool.Decides.{nat_tests}
-use Rattle.std.specs.Prelude.{min}
 use Rattle.std.specs.List.{AllByRecursion}
 use Rattle.tspdef.specs.Instances.{Instance, IsTourOf, length_in}
 use Rattle.pricer.specs.declared.closing.Report.{Report}
 use Rattle.bossx.specs.declared.brought.Brought.TheVariants.{Plain}
+use Rattle.bossx.specs.declared.events.Event.{Event}
+use Rattle.bossx.specs.declared.events.Event.TheVariants as event
+use Rattle.bossx.specs.declared.events.Reply.{Reply}
+use Rattle.bossx.specs.declared.events.Reply.TheVariants as heard
 use Rattle.bossx.specs.declared.replies.Reported.{Reported}
 use Rattle.bossx.specs.declared.replies.Reported.TheVariants.{Taken}
 use Rattle.bossx.specs.declared.replies.Offered.{Offered}
 use Rattle.bossx.specs.declared.replies.Offered.TheVariants.{NotShorter, Better}
 use Rattle.bossx.specs.Books.{Book, best_length, taken, with_best}
 use Rattle.bossx.specs.Judging.{MayBeTaken}
-use Rattle.bossx.specs.Steps.{Event, Reply, own, offer, reported, offered, Step, own_taken, offer_not_shorter, offer_better, Run, run_ends, run_goes_on}
+use Rattle.bossx.specs.Steps.{Step, own_taken, offer_not_shorter, offer_better, Run, run_ends, run_goes_on}
 use Rattle.bossx.specs.Laws.{IsSameStart, StepsHaveNoChoice}
 use Rattle.worker.specs.Splits.{Splits}
 use Rattle.worker.specs.Works.{best_after}
-use Rattle.tspround.specs.Alone.{IsOwn, IsOwnRun, IsSplitBy, IsOffered, IsReported, IsTurn}
+use Rattle.tspround.specs.Alone.{IsOwn, IsOwnRun, IsSplitBy, IsOffered, IsReported, IsTurn, IsSoFar}
 
 -- ---- runs
 
@@ -70,30 +73,36 @@ lt_or_le a b = grind (arith, nat_tests)
 
 -- the tour is shorter
 offers_better : (b : Book) (t : List ℕ) → length_in b.instance t < best_length b → IsOwnRun b (with_best b t) → IsOffered (Some t) b (with_best b t)
-offers_better b t shorter run = record { run = run; start = same_start b; tree = refl; settled = refl; best = omega (arith, shorter) }
+offers_better b t shorter run = record {
+  run = run;
+  start = record { instance = refl; budget = refl; grunts = refl; gap = refl; start = refl };
+  tree = refl;
+  settled = refl;
+  best = omega (arith, shorter);
+}
 
 -- or it is not
 offers_longer : (b : Book) (t : List ℕ) → best_length b ≤ length_in b.instance t → IsOwnRun b b → IsOffered (Some t) b b
 offers_longer b t long run = record { run = run; start = same_start b; tree = refl; settled = refl; best = omega (arith, long) }
 
-pub offers_some : StepsHaveNoChoice → (b new : Book) (t : List ℕ) (reply : Offered) → IsTourOf b.instance t → Step b (offer t) (offered reply) new → IsOffered (Some t) b new
+pub offers_some : StepsHaveNoChoice → (b new : Book) (t : List ℕ) (reply : Offered) → IsTourOf b.instance t → Step b (event.Offer t) (heard.Offered reply) new → IsOffered (Some t) b new
 offers_some no_choice b new t reply is step =
-    let run = one_event b new (offer t) (offered reply) tt step in
+    let run = one_event b new (event.Offer t) (heard.Offered reply) tt step in
     ⊎_elim
     (λ (shorter : length_in b.instance t < best_length b).
-        let e = (no_choice b new (with_best b t) (offer t) (offered reply) (offered Better) step (offer_better t is shorter)).1 in
-        subst (IsOffered (Some t) b) (sym e) (offers_better b t shorter (subst (IsOwnRun b) e run)))
+    let e = (no_choice b new (with_best b t) (event.Offer t) (heard.Offered reply) (heard.Offered Better) step (offer_better t is shorter)).1 in
+    subst (IsOffered (Some t) b) (sym e) (offers_better b t shorter (subst (IsOwnRun b) e run)))
     (λ (long : best_length b ≤ length_in b.instance t).
-        let e = (no_choice b new b (offer t) (offered reply) (offered (NotShorter (best_length b))) step (offer_not_shorter t is long)).1 in
-        subst (IsOffered (Some t) b) (sym e) (offers_longer b t long (subst (IsOwnRun b) e run)))
+    let e = (no_choice b new b (event.Offer t) (heard.Offered reply) (heard.Offered (NotShorter (best_length b))) step (offer_not_shorter t is long)).1 in
+    subst (IsOffered (Some t) b) (sym e) (offers_longer b t long (subst (IsOwnRun b) e run)))
     (lt_or_le (length_in b.instance t) (best_length b))
 
 -- ---- reports
 
-pub reports : StepsHaveNoChoice → (b new : Book) (node : ℕ) (r : Report) (reply : Reported) → MayBeTaken b node (Plain r) → Step b (own node r) (reported reply) new → IsReported node r b new
+pub reports : StepsHaveNoChoice → (b new : Book) (node : ℕ) (r : Report) (reply : Reported) → MayBeTaken b node (Plain r) → Step b (event.Own node r) (heard.Reported reply) new → IsReported node r b new
 reports no_choice b new node r reply may step = record {
-  run = one_event b new (own node r) (reported reply) tt step;
-  taken = (no_choice b new (taken b None node (Plain r)) (own node r) (reported reply) (reported Taken) step (own_taken node r may)).1;
+  run = one_event b new (event.Own node r) (heard.Reported reply) tt step;
+  taken = (no_choice b new (taken b None node (Plain r)) (event.Own node r) (heard.Reported reply) (heard.Reported Taken) step (own_taken node r may)).1;
 }
 
 -- ---- turns
@@ -121,3 +130,24 @@ pub turn_of : (S : Splits) (b mid new : Book) (tour : Option (List ℕ)) (node :
     → (IsSplitBy S b → IsSplitBy S (taken mid None node (Plain r))) → IsTurn S b new
 turn_of S b mid new tour node r o p splits =
     subst (IsTurn S b) (sym p.taken) (turn_to S b mid tour node r o (subst (IsOwnRun mid) p.taken p.run) splits)
+
+-- ---- many turns
+
+-- no turn yet
+pub none_so_far : (S : Splits) (b : Book) → IsSplitBy S b → IsSoFar S 0 b b
+none_so_far S b split = record { run = no_run b; start = same_start b; no_longer = omega arith; settled = omega arith; splits = split }
+
+-- one more
+pub one_more : (S : Splits) (count : ℕ) (b mid new : Book) → IsSoFar S count b mid → IsTurn S mid new → IsSoFar S (count + 1) b new
+one_more S count b mid new p t =
+    let a = p.no_longer in
+    let d = t.no_longer in
+    let s = p.settled in
+    let u = t.settled in
+    record {
+      run = run_then b mid new p.run t.run;
+      start = start_then b mid new p.start t.start;
+      no_longer = omega (arith, a, d);
+      settled = omega (arith, s, u);
+      splits = t.splits p.splits;
+    }

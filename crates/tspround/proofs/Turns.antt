@@ -1,6 +1,7 @@
 -- A turn: a tour is offered, and then a report is taken.
-use Rattle.std.proofs.Common.{◌≡◌, ℕ, ◌-◌, ◌<◌, ◌≤◌, Option, None, List, sym, subst, ap, ◌∙◌, arith}
+use Rattle.std.proofs.Common.{◌≡◌, ℕ, ◌-◌, ◌<◌, Option, None, List, sym, subst, ap, ◌∙◌, arith}
 use Rattle.tspdef.specs.Instances.{Instance}
+use Rattle.branchx.specs.Path.{Conditions}
 use Rattle.pricer.specs.declared.closing.Report.{Report}
 use Rattle.treebook.specs.Tree as trees
 use Rattle.treebook.specs.Tables.{IsOpen, path_at, tree_of}
@@ -24,6 +25,27 @@ moved b mid tour o P p =
     (subst (λ (x : trees.Table). P b.instance x mid.start mid.gap) (sym o.tree)
     (subst (λ (x : Start). P b.instance b.tree x mid.gap) (sym o.start.start)
     (subst (λ (x : ℕ). P b.instance b.tree b.start x) (sym o.start.gap) p)))
+
+-- the report of work as one at the node of the book
+pub report_at : (i : Instance) (b : Book) (path : Conditions) (best gap node : ℕ) (found tour : Option (List ℕ)) (r : Report) → i ≡ b.instance
+    → path ≡ record { n = b.instance.n; conditions = path_in b node } → best ≡ best_length b → gap ≡ b.gap → tour ≡ found
+    → IsReport i path.conditions (best_after i best found - gap) r → IsReport b.instance (path_in b node) (best_after b.instance (best_length b) tour - b.gap) r
+report_at i b path best gap node found tour r same on long miss offered is =
+    subst (λ (j : Instance). IsReport j (path_in b node) (best_after j (best_length b) tour - b.gap) r) same
+    (subst (λ (p : Conditions). IsReport i p.conditions (best_after i (best_length b) tour - b.gap) r) on
+    (subst (λ (m : ℕ). IsReport i path.conditions (best_after i m tour - b.gap) r) long
+    (subst (λ (m : ℕ). IsReport i path.conditions (best_after i best tour - m) r) miss
+    (subst (λ (o : Option (List ℕ)). IsReport i path.conditions (best_after i best o - gap) r) (sym offered) is))))
+
+-- and its split as one that may be there
+pub only_at : (S : Splits) (i : Instance) (b : Book) (path : Conditions) (best gap node : ℕ) (r : Report) → i ≡ b.instance
+    → path ≡ record { n = b.instance.n; conditions = path_in b node } → best ≡ best_length b → gap ≡ b.gap
+    → SplitsOnly S i path.conditions best r gap → SplitsOnly S b.instance (path_in b node) (best_length b) r b.gap
+only_at S i b path best gap node r same on long miss is =
+    subst (λ (j : Instance). SplitsOnly S j (path_in b node) (best_length b) r b.gap) same
+    (subst (λ (p : Conditions). SplitsOnly S i p.conditions (best_length b) r b.gap) on
+    (subst (λ (m : ℕ). SplitsOnly S i path.conditions m r b.gap) long
+    (subst (λ (m : ℕ). SplitsOnly S i path.conditions best r m) miss is)))
 
 -- a sure worker's report may be taken once its tour is offered
 pub taken_after_offer : (b mid : Book) (tour : Option (List ℕ)) (node : ℕ) (r : Report) → IsOffered tour b mid → IsOpen b.tree.nodes node → b.settled < b.budget
@@ -54,9 +76,8 @@ over_in i b mid tour r told over o same tells is =
     is ∙ ap (λ (x : Report). report_over i.n x) tells ∙ ap (λ (x : Instance). report_over x.n r) (same ∙ sym o.start.instance)
 
 pub turn_done : OpenNodesAreOpenLeaves → ClosingKeepsTables → SplittingKeepsTables → (S : Splits) → StayForMore S → (b mid new : Book) (tour : Option (List ℕ)) (node : ℕ) (r over : Report)
-    → IsBook b → IsOffered tour b mid → over ≡ report_over mid.instance.n r → MayBeTaken mid node (Plain over) → IsReported node over mid new
+    → IsBook b → IsOffered tour b mid → over ≡ report_over mid.instance.n r → MayBeTaken mid node (Plain (report_over mid.instance.n r)) → IsReported node over mid new
     → SplitsOnly S b.instance (path_in b node) (best_length b) r b.gap → IsTurn S b new
 turn_done leaves closing splitting S stay b mid new tour node r over k o is may p only =
-    let so = subst (λ (x : Report). MayBeTaken mid node (Plain x)) is may in
     turn_of S b mid new tour node over o p
-    (subst (λ (x : Report). IsSplitBy S b → IsSplitBy S (taken mid None node (Plain x))) (sym is) (turn_splits leaves closing splitting S stay b mid tour node r k o so only))
+    (subst (λ (x : Report). IsSplitBy S b → IsSplitBy S (taken mid None node (Plain x))) (sym is) (turn_splits leaves closing splitting S stay b mid tour node r k o may only))

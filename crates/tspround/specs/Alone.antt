@@ -1,16 +1,18 @@
 -- What one worker does to a boss's book.
-use Rattle.std.specs.Prelude.{◌≡◌, ℕ, ◌+◌, ◌<◌, ◌≤◌, ◌⊎◌, List, Option, None}
+use Rattle.std.specs.Prelude.{◌≡◌, ℕ, ◌+◌, ◌≤◌, ◌⊎◌, List, Option, None}
 use Rattle.std.specs.List.{AllByRecursion}
 use Rattle.tspdef.specs.Sets.{IsProper}
 use Rattle.cyc.specs.CitySet.{Members}
-use Rattle.branchx.specs.declared.branch.Branch.{Branch}
 use Rattle.branchx.specs.declared.branch.Branch.TheVariants as branch
 use Rattle.pricer.specs.declared.closing.Report.{Report}
 use Rattle.pricer.specs.declared.closing.Report.TheVariants as content
 use Rattle.treebook.specs.Tables.{tree_of}
 use Rattle.bossx.specs.declared.brought.Brought.TheVariants.{Plain}
+use Rattle.bossx.specs.declared.events.Event.{Event}
+use Rattle.bossx.specs.declared.events.Event.TheVariants as event
+use Rattle.bossx.specs.declared.events.Reply.{Reply}
 use Rattle.bossx.specs.Books.{Book, best_length, taken}
-use Rattle.bossx.specs.Steps.{Event, Reply, ask, report, own, gone, expire, offer, Run, count_open}
+use Rattle.bossx.specs.Steps.{Run, count_open}
 use Rattle.bossx.specs.Laws.{IsSameStart}
 use Rattle.worker.specs.Splits.{Splits}
 use Rattle.worker.specs.Works.{best_after}
@@ -22,12 +24,12 @@ IsSplitBy S b = SplitSince S b.instance b.start.length b.gap (tree_of b.start.no
 
 -- a tour is offered, or the boss itself reports on a node
 abbrev pub IsOwn : Event → Type 0
-IsOwn (ask grunt) = ⊥
-IsOwn (report lease what) = ⊥
-IsOwn (own node what) = Unit {0}
-IsOwn (gone grunt) = ⊥
-IsOwn (expire lease) = ⊥
-IsOwn (offer tour) = Unit {0}
+IsOwn (event.Ask grunt) = ⊥
+IsOwn (event.Report lease what) = ⊥
+IsOwn (event.Own node what) = Unit {0}
+IsOwn (event.Gone grunt) = ⊥
+IsOwn (event.Expire lease) = ⊥
+IsOwn (event.Offer tour) = Unit {0}
 
 -- events that lead from one book to another: tours that are offered, and reports of the boss itself
 pub record IsOwnRun (b new : Book) : Type 0 where
@@ -48,6 +50,14 @@ pub record IsAlone (S : Splits) (turns : ℕ) (b new : Book) : Type 0 where
   pub least : b.settled ≤ new.settled
   pub most : new.settled ≤ b.settled + turns
   pub ended : HasEnded turns b new
+  pub splits : IsSplitBy S new
+
+-- what so many turns have done
+pub record IsSoFar (S : Splits) (count : ℕ) (b new : Book) : Type 0 where
+  pub run : IsOwnRun b new
+  pub start : IsSameStart b new
+  pub no_longer : best_length new ≤ best_length b
+  pub settled : new.settled ≡ b.settled + count
   pub splits : IsSplitBy S new
 
 -- what one turn does

@@ -2,17 +2,15 @@
 //!
 //! - [`alone`] lets a worker close or split open nodes of a boss for some turns. [`alone_counted`] adds up what that cost, in
 //!   [`Effort`].
-//! - [`sure_reports_are_taken`]: the law that a sure worker settles a node at each turn.
+//! - [`sure_work_is_taken`]: the law that a sure worker settles a node at each turn.
 //! - [`nothing_is_split_at_the_start`], [`splits_stay`] and [`few_cities_end`]: the laws of the splits since the start.
 #![tactic(auto)]
 
-mod alone;
 mod laws;
+mod searching;
 mod sets;
 
-pub use alone::{alone, alone_counted};
-pub use laws::{few_cities_end, nothing_is_split_at_the_start, splits_stay, sure_reports_are_taken};
+pub use laws::{few_cities_end, nothing_is_split_at_the_start, splits_stay, sure_work_is_taken};
+pub use searching::{alone, alone_counted};
 pub use worker::Effort;
 
-#[cfg(test)]
-mod tests;
