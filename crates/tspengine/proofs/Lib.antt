@@ -5,6 +5,7 @@ mod Storing
 mod Rounds
 mod Beginnings
 mod Solves
+mod Joining
 mod Tours
 mod Benches
 mod Verifies

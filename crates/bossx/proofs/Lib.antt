@@ -1,0 +1,12 @@
+pub mod LendingLemmas
+pub mod SettlingLemmas
+pub mod Keeping
+pub mod Rows
+pub mod Charging
+pub mod FreeLemmas
+pub mod Room
+pub mod Beginning
+pub mod Kept
+pub mod Deciding
+pub mod Reporting
+pub mod Playing
