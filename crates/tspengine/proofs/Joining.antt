@@ -1,5 +1,5 @@
 -- From what the steps of `solve` say to what its ends say.
-use Rattle.std.proofs.Common.{◌≡◌, ℕ, List, [], ◌∷◌, sym, ap, subst, ◌∙◌, ◌⊎◌, inl, inr, refl, Option, Some, None, Bool, true, false}
+use Rattle.std.proofs.Common.{◌≡◌, ℕ, List, [], ◌∷◌, sym, ap, subst, ◌∙◌, ◌⊎◌, inl, inr, refl, Option, Some, None, Bool, true, false, Err}
 use Rattle.ports.specs.Outside.{BothTell, WhereTold}
 use Rattle.ports.specs.Desk.{Told}
 use Rattle.ports.specs.Slots.{SlotsTold, with_path}
@@ -20,17 +20,20 @@ use Rattle.tspengine.specs.Calls.{Call}
 use Rattle.tspengine.specs.Starts.{Start, Begins, GoesOnWith}
 use Rattle.tspengine.specs.Saves.{AreBodiesOn, HasSaved, HasFailed}
 use Rattle.tspengine.specs.Searches.{start_in, IsSearchOf}
-use Rattle.tspengine.specs.Rounds.{AreBodiesFrom, SavesSome, SavesUntil}
+use Rattle.tspengine.specs.Rounds.{AreBodiesFrom, SavesSome, SavesUntil, Searches}
 use Rattle.tspengine.specs.Begun.{IsBegunAnew, IsBegunWith}
 use Rattle.tspengine.specs.Outcomes.{IsOutcome}
 use Rattle.tspengine.specs.Solving.{IsBegun, IsSearched, IsRefusedLoad, Solves}
 use Rattle.tspengine.specs.declared.starting.Search.{Search}
 use Rattle.tspengine.specs.declared.starting.Begun.TheVariants as begun
+use Rattle.tspengine.specs.declared.starting.Halt.{Halt}
+use Rattle.tspengine.specs.declared.starting.Halt.TheVariants as halt
 use Rattle.tspengine.specs.declared.outcomes.Outcome.{Outcome}
+use Rattle.tspengine.specs.declared.statuses.Status.{Status}
 use Rattle.tspengine.specs.declared.statuses.Status.TheVariants as status
 use Rattle.tspengine.proofs.Storing.{saved_on, failed_on}
 use Rattle.tspengine.proofs.Rounds.{same_start}
-use Rattle.tspengine.proofs.Solves.{load_failed, save_failed}
+use Rattle.tspengine.proofs.Solves.{load_failed, save_failed, short_begin, short_search}
 
 -- ---- what the slots load
 
@@ -122,6 +125,23 @@ failed_search c w i b mid m says of read begins is saves = elim until_or b mid c
   | inr (bodies, (body, (are, failed))) ↦ save_failed c i (start_in b) bodies body read begins (bodies_of c.words w i b (body ∷ bodies) says of are)
   (failed_on (restart_word c.words) bodies body c.before.moments mid c.after.moments c.before.slots m c.after.slots is failed)
 ]
+
+-- ---- a search that does not go on
+
+pub halted_begin : (c : Call) (i : Instance) (h : Halt) (s : Status) → (h ≡ halt.StoreFault → s ≡ status.StoreFault) → (h ≡ halt.NoMemory → s ≡ status.NoMemory)
+    → BothTell (ReadsInstance (instance_word c.words) i) c.before.desk c.after.desk
+    → BothTell (IsBegun (restart_word c.words) c.before.moments c.after.moments) c.before.slots c.after.slots → Solves s c
+halted_begin c i halt.StoreFault s fault short read is = subst (λ (k : Status). Solves k c) (sym (fault refl)) (load_failed c i read is)
+halted_begin c i halt.NoMemory s fault short read is = subst (λ (k : Status). Solves k c) (sym (short refl)) (short_begin c i read is)
+
+pub halted_search : (c : Call) (w : Solve) (i : Instance) (b : Book) (h : Halt) (s : Status) (mid : List Moment) (m : Option SlotsTold) → (h ≡ halt.StoreFault → s ≡ status.StoreFault)
+    → (h ≡ halt.NoMemory → s ≡ status.NoMemory) → SaysSolve c.words w → IsSearchOf i w.budget w.gap b → BothTell (ReadsInstance (instance_word c.words) i) c.before.desk c.after.desk
+    → Begins c i (start_in b) → BothTell (IsBegun (restart_word c.words) c.before.moments mid) c.before.slots m
+    → BothTell (Searches (Err h) b mid c.after.moments) m c.after.slots → Solves s c
+halted_search c w i b halt.StoreFault s mid m fault short says of read begins is saves =
+    subst (λ (k : Status). Solves k c) (sym (fault refl)) (failed_search c w i b mid m says of read begins is saves)
+halted_search c w i b halt.NoMemory s mid m fault short says of read begins is saves =
+    subst (λ (k : Status). Solves k c) (sym (short refl)) (short_search c i (start_in b) read begins (searched_of c w i b mid c.after.moments m c.after.slots says of is saves))
 
 -- ---- what came of it
 

@@ -1,5 +1,5 @@
 -- Rounds of a search, and what they save.
-use Rattle.std.proofs.Common.{◌≡◌, ℕ, ◌+◌, ◌*◌, ◌<◌, ◌≤◌, List, [], ◌∷◌, length, refl, sym, ap, subst, ◌∙◌, ◌⊎◌, inl, inr, Option, arith}
+use Rattle.std.proofs.Common.{◌≡◌, ℕ, ◌+◌, ◌-◌, ◌*◌, ◌<◌, ◌≤◌, List, [], ◌∷◌, length, refl, sym, ap, subst, ◌∙◌, ◌⊎◌, inl, inr, Option, Err, arith}
 use Rattle.std.specs.List.{AllByRecursion}
 use Rattle.ports.specs.Outside.{BothTell}
 use Rattle.ports.specs.Slots.{SlotsTold}
@@ -21,7 +21,9 @@ use Rattle.tspround.specs.Alone.{IsAlone, IsSplitBy}
 use Rattle.tspengine.specs.Starts as starts
 use Rattle.tspengine.specs.Saves.{IsBodyOn, AreBodiesOn, HasSaved, HasFailed}
 use Rattle.tspengine.specs.Searches.{start_in, IsSearch, IsTextOfBook}
-use Rattle.tspengine.specs.Rounds.{IsBodyFrom, AreBodiesFrom, KeepsSlots, SavesOne, FailsToSave, SavesSome, SavesUntil}
+use Rattle.tspengine.specs.Rounds.{IsBodyFrom, AreBodiesFrom, IsFurther, KeepsSlots, SavesOne, FailsToSave, SavesSome, SavesUntil, Searches}
+use Rattle.tspengine.specs.declared.starting.Halt.{Halt}
+use Rattle.tspengine.specs.declared.starting.Halt.TheVariants as halt
 use Rattle.tspengine.proofs.Storing.{none_saved, saved_more, failed_more, since_both}
 use Rattle.tspengine.proofs.Writing.{body_of}
 
@@ -144,3 +146,25 @@ kept_now first past mid later t m u some kept = record {
 pub kept_on : (first : Book) (past mid later : List Moment) (s m u : Option SlotsTold) → BothTell (SavesSome first past mid) s m → BothTell (KeepsSlots mid later) m u → BothTell (SavesSome first past later) s u
 kept_on first past mid later s m u some kept = both_then (SavesSome first past mid) (KeepsSlots mid later) (SavesSome first past later) (kept_now first past mid later) s m u some kept
 
+-- the save of a body on the way did not succeed
+pub stopped_by : (first b : Book) → IsSameStart first b → (h : Halt) (past mid later : List Moment) (s m u : Option SlotsTold) → BothTell (SavesSome first past mid) s m
+    → (h ≡ halt.StoreFault → BothTell (FailsToSave b mid later) m u) → (h ≡ halt.NoMemory → BothTell (KeepsSlots mid later) m u) → BothTell (Searches (Err h) first past later) s u
+stopped_by first b same halt.StoreFault past mid later s m u some failed kept = until first b same past mid later s m u some (failed refl)
+stopped_by first b same halt.NoMemory past mid later s m u some failed kept = kept_on first past mid later s m u some (kept refl)
+
+-- ---- turns in a search
+
+pub not_yet_further : (b : Book) → IsSearch b → IsFurther b b
+not_yet_further b search = record { start = record { instance = refl; budget = refl; grunts = refl; gap = refl; start = refl }; search = search }
+
+pub further_on : (turns : ℕ) (first b new : Book) → IsFurther first b → IsAlone IsNeededSplit turns b new → IsFurther first new
+further_on turns first b new so_far went = record { start = same_then first b new so_far.start went.start; search = search_on turns b new so_far.search went }
+
+-- after turns that were not the last fewer are left
+pub less_left : (turns : ℕ) (b new : Book) → 0 < turns → IsAlone IsNeededSplit turns b new → 0 < open_leaves (tree_of new.tree.nodes) → new.settled < new.budget
+    → new.budget - new.settled < b.budget - b.settled
+less_left turns b new some_turns went some left = let same = went.start.budget in elim went.ended [
+  | inl e ↦ absurd (omega arith)
+  | inr (inl e) ↦ absurd (omega arith)
+  | inr (inr e) ↦ omega arith
+]

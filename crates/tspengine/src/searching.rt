@@ -56,7 +56,8 @@ pub(crate) fn search<L: Slots>(
 /// Whether a node is open and the budget is not settled.
 fn goes_on(boss: &Boss) -> bool
     ensures ended { result ≡ false → HasEnded boss.now }
-    ensures goes_on { result ≡ true → 0 < open_leaves (tree_of boss.now.tree.nodes) }
+    ensures some_open { result ≡ true → 0 < open_leaves (tree_of boss.now.tree.nodes) }
+    ensures left { result ≡ true → boss.now.settled < boss.now.budget }
 {
     let (_, tree) = boss.snapshot();
     tree.open_nodes() > 0 && boss.settled() < boss.budget()

@@ -1,12 +1,12 @@
-use Rattle.std.proofs.Common.{List, ℕ, refl, subst, ◌∙◌, inl, inr}
+use Rattle.std.proofs.Common.{List, ℕ, refl, subst, ◌∙◌}
 use Rattle.ports.specs.Outside.{BothTell}
 use Rattle.verification.specs.declared.reading.Reading.{Reading}
 use Rattle.verification.specs.Transfers.{ReadsInstance, RefusesInstance, TouchesInstance}
 use Rattle.verification.specs.Readings.{IsReadingOf}
 use Rattle.tspengine.specs.Calls.{on_desk, on_slots}
 use Rattle.tspengine.proofs.InstanceReads.{refused_ends}
-use Rattle.tspengine.proofs.Solves.{refused_solve}
-use Rattle.tspengine.proofs.Storing.{kept_or_begun, no_moments}
+use Rattle.tspengine.proofs.Solves.{refused_solve, silent_short, as_unread}
+use Rattle.tspengine.specs.declared.statuses.Status.TheVariants as status
 use Rattle.tspengine.proofs.solving.solve.Goals as goal
 
 pub returns-in-Ok-Instance-clause-ends : goal.returns-in-Ok-Instance-clause-ends
@@ -41,7 +41,7 @@ returns-in-Err-Failed-clause-ends g c = λ call says.
     let s = g.L.Slots.told c.args.slots.now in
     let p = g.L.Slots.past c.args.slots.now in
     let touches = subst (λ (w : List ℕ). BothTell (TouchesInstance w) a b) (c.deref.ensures ∙ says.instance) c.in-Err-Failed.ensures.unread in
-    inr (inr (inr (inl (refl, record { desk = touches; slots = refl {a = s} }))))
+    as_unread status.ReadFault (on_slots s p s p (on_desk a b call)) refl (record { desk = touches; slots = refl {a = s} })
 
 pub returns-in-Err-NoMemory-clause-ends : goal.returns-in-Err-NoMemory-clause-ends
 returns-in-Err-NoMemory-clause-ends g c = λ call says.
@@ -50,5 +50,4 @@ returns-in-Err-NoMemory-clause-ends g c = λ call says.
     let s = g.L.Slots.told c.args.slots.now in
     let p = g.L.Slots.past c.args.slots.now in
     let touches = subst (λ (w : List ℕ). BothTell (TouchesInstance w) a b) (c.deref.ensures ∙ says.instance) c.in-Err-NoMemory.ensures.unread in
-    let here = on_slots s p s p (on_desk a b call) in
-    inr (inr (inr (inr (inr (inr (refl, record { desk = touches; slots = kept_or_begun here refl; a_crash_leaves_what_was_there = no_moments here refl refl }))))))
+    silent_short (on_slots s p s p (on_desk a b call)) touches refl refl

@@ -7,7 +7,7 @@ use Rattle.tspwords.specs.Program.{restart_word}
 use Rattle.tspengine.specs.Calls.{ending_with}
 use Rattle.tspengine.specs.Solving.{IsBegun}
 use Rattle.verification.proofs.Tells.{on_err, on_ok}
-use Rattle.tspengine.proofs.Solves.{unbound_slots, begin_failed, short_search}
+use Rattle.tspengine.proofs.Solves.{unbound_slots, begin_failed}
 use Rattle.tspengine.proofs.Storing.{begun_on}
 use Rattle.tspengine.proofs.solving.solve_instance.Goals as goal
 
@@ -17,33 +17,6 @@ returns-then-is_err-clause-ends g c = λ call says read same none.
     let s = g.L.Slots.told c.bind.new.self in
     let kept = on_err c.bind.result (sym c.is_err.ensures.value ∙ c.if-is_err.true) c.bind.ensures.err in
     unbound_slots (ending_with d s (g.L.Slots.past c.bind.new.self) call) c.args.instance.now read (kept ∙ sym same) (c.bind.ensures.past ∙ sym none)
-
-pub returns-in_default-clause-ends : goal.returns-in_default-clause-ends
-returns-in_default-clause-ends g c = λ call says read same none.
-    let d = g.D.Desk.told c.args.desk.now in
-    let s = g.L.Slots.told c.args.slots.now in
-    let m = g.L.Slots.told c.bind.new.self in
-    let u = g.L.Slots.told c.begin.new.slots in
-    let later = g.L.Slots.past c.begin.new.slots in
-    let bound = on_ok c.bind.result (sym c.is_err.ensures.value ∙ c.if-is_err.false) c.bind.ensures.bound in
-    let at = subst (λ (w : List ℕ). BothTell (λ t u. u ≡ with_path w t) s m) (c.deref.ensures ∙ says.restart) bound in
-    let crash = subst (λ (p : List Moment). BothTell (λ t u. Since (LoadsAs (moment_of t)) p later u) m u) (c.bind.ensures.past ∙ sym none) c.begin.ensures.crash in
-    begin_failed (ending_with d u later call) c.args.instance.now m read
-    (subst (λ (x : Option SlotsTold). BothTell (λ t u. u ≡ with_path (restart_word call.words) t) x m) (sym same) at)
-    c.in_default.ensures.failed crash
-
-pub returns-in-Ok-outcome_of-clause-ends : goal.returns-in-Ok-outcome_of-clause-ends
-returns-in-Ok-outcome_of-clause-ends g c = λ call says read same none.
-    let s = g.L.Slots.told c.args.slots.now in
-    let m = g.L.Slots.told c.bind.new.self in
-    let u = g.L.Slots.told c.begin.new.slots in
-    let later = g.L.Slots.past c.begin.new.slots in
-    let bound = on_ok c.bind.result (sym c.is_err.ensures.value ∙ c.if-is_err.false) c.bind.ensures.bound in
-    let at = subst (λ (w : List ℕ). BothTell (λ t u. u ≡ with_path w t) s m) (c.deref.ensures ∙ says.restart) bound in
-    let crash = subst (λ (p : List Moment). BothTell (λ t u. Since (LoadsAs (moment_of t)) p later u) m u) (c.bind.ensures.past ∙ sym none) c.begin.ensures.crash in
-    let begun = begun_on (restart_word call.words) call.before.moments later s m u at c.in-Ok.ensures.settled crash in
-    c.finish.ensures.ends call c.args.instance.now says c.in-Ok-outcome_of.ensures.outcome read
-    (subst (λ (x : Option SlotsTold). BothTell (IsBegun (restart_word call.words) call.before.moments later) x u) (sym same) begun)
 
 pub returns-in-Err-clause-ends : goal.returns-in-Err-clause-ends
 returns-in-Err-clause-ends g c = λ call says read same none.
@@ -55,6 +28,19 @@ returns-in-Err-clause-ends g c = λ call says read same none.
     let bound = on_ok c.bind.result (sym c.is_err.ensures.value ∙ c.if-is_err.false) c.bind.ensures.bound in
     let at = subst (λ (w : List ℕ). BothTell (λ t u. u ≡ with_path w t) s m) (c.deref.ensures ∙ says.restart) bound in
     let crash = subst (λ (p : List Moment). BothTell (λ t u. Since (LoadsAs (moment_of t)) p later u) m u) (c.bind.ensures.past ∙ sym none) c.begin.ensures.crash in
+    begin_failed (ending_with d u later call) c.args.instance.now m read
+    (subst (λ (x : Option SlotsTold). BothTell (λ t u. u ≡ with_path (restart_word call.words) t) x m) (sym same) at)
+    c.in-Err.ensures.failed crash
+
+pub returns-in-Ok-clause-ends : goal.returns-in-Ok-clause-ends
+returns-in-Ok-clause-ends g c = λ call says read same none.
+    let s = g.L.Slots.told c.args.slots.now in
+    let m = g.L.Slots.told c.bind.new.self in
+    let u = g.L.Slots.told c.begin.new.slots in
+    let later = g.L.Slots.past c.begin.new.slots in
+    let bound = on_ok c.bind.result (sym c.is_err.ensures.value ∙ c.if-is_err.false) c.bind.ensures.bound in
+    let at = subst (λ (w : List ℕ). BothTell (λ t u. u ≡ with_path w t) s m) (c.deref.ensures ∙ says.restart) bound in
+    let crash = subst (λ (p : List Moment). BothTell (λ t u. Since (LoadsAs (moment_of t)) p later u) m u) (c.bind.ensures.past ∙ sym none) c.begin.ensures.crash in
     let begun = begun_on (restart_word call.words) call.before.moments later s m u at c.in-Ok.ensures.settled crash in
-    short_search (ending_with d u later call) c.args.instance.now read
+    c.solve_on.ensures.ends call says read
     (subst (λ (x : Option SlotsTold). BothTell (IsBegun (restart_word call.words) call.before.moments later) x u) (sym same) begun)

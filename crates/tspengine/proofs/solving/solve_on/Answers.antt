@@ -1,0 +1,32 @@
+use Rattle.std.proofs.Common.{◌≡◌, List, sym, subst, Option, refl, inl, inr}
+use Rattle.ports.specs.Outside.{BothTell, WhereTold}
+use Rattle.ports.specs.Crash.{Moment}
+use Rattle.ports.specs.Slots.{SlotsTold}
+use Rattle.slotstore.specs.Store.{loaded}
+use Rattle.tspwords.specs.Program.{restart_word}
+use Rattle.tspengine.specs.Calls.{ending_with}
+use Rattle.tspengine.specs.Begun.{IsBegunAnew, IsBegunWith}
+use Rattle.tspengine.specs.Solving.{IsBegun, Solves}
+use Rattle.tspengine.specs.declared.starting.Begun.{Begun}
+use Rattle.tspengine.specs.declared.starting.Begun.TheVariants as begun
+use Rattle.tspengine.specs.declared.starting.Halt.{Halt}
+use Rattle.tspengine.specs.declared.starting.Halt.TheVariants as halt
+use Rattle.tspengine.specs.declared.statuses.Status.{Status}
+use Rattle.tspengine.proofs.Solves.{body_refused, load_failed, short_begin}
+use Rattle.tspengine.proofs.Joining.{begins_of, refused_of}
+use Rattle.tspengine.proofs.solving.solve_on.Goals as goal
+
+pub returns-in-Ok-Search-clause-ends : goal.returns-in-Ok-Search-clause-ends
+returns-in-Ok-Search-clause-ends g c = λ call says read is.
+    let w = c.args.words.now in
+    let i = c.args.instance.now in
+    let s = c.in-Ok-Search.search in
+    let m = g.L.Slots.told c.args.slots.now in
+    let past = g.L.Slots.past c.args.slots.now in
+    let begins = begins_of call w i s past m says is
+    (subst (λ (b : Begun). w.resume ≡ _ → IsBegunAnew i b) c.in-Ok-Search.field-0-is c.in-Ok-Search.ensures.anew)
+    (subst (λ (b : Begun). w.resume ≡ _ → WhereTold (λ t. IsBegunWith i w.budget w.gap (loaded t) b) m) c.in-Ok-Search.field-0-is c.in-Ok-Search.ensures.resumed) in
+    c.solve_by.ensures.ends call says read
+    (subst (λ (x : Option SlotsTold). BothTell (IsBegun (restart_word call.words) call.before.moments (g.L.Slots.past c.begin.new.slots)) call.before.slots x) (sym c.begin.ensures.told)
+    (subst (λ (p : List Moment). BothTell (IsBegun (restart_word call.words) call.before.moments p) call.before.slots m) (sym c.begin.ensures.past) is))
+    begins
