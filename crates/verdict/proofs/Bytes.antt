@@ -60,7 +60,7 @@ byte_lines j l r b bs false false false true u t more h =
     record { lines = k.lines; said = sym (append_assoc r.begun (b ∷ []) bs) ∙ k.said; verdict = k.verdict; few = λ p. few_more r.read bs few k.few }
 byte_lines j l r b bs false false false false u t more h = cc
 
-bytes_lines : (j : Tests) (l : ℕ × ℕ) (r : Reading) (bs : List ℕ) → verdict_at_end (bytes_on j (reads r) bs) ≡ yes l.0 l.1 → Lines j l r bs
+pub bytes_lines : (j : Tests) (l : ℕ × ℕ) (r : Reading) (bs : List ℕ) → verdict_at_end (bytes_on j (reads r) bs) ≡ yes l.0 l.1 → Lines j l r bs
 bytes_lines j l r [] h = end_line j l r (nat_lt 0 (length r.begun)) refl h r.begun refl
 bytes_lines j l r (b ∷ bs) h = byte_lines j l r b bs (nat_le most_bytes r.read) (is_end r.stage) (b == 10) (nat_lt (length r.begun) longest) refl refl (λ q k. bytes_lines j l q bs k) h
 
@@ -156,7 +156,7 @@ lines_bytes j l at read (go s) (w ∷ ws) h f e = ⊎_elim
 
 -- ---- whole texts
 
-none_or_some : (bs : List ℕ) → (0 < length bs → 0 + length bs ≤ most_bytes) → length bs ≤ most_bytes
+pub none_or_some : (bs : List ℕ) → (0 < length bs → 0 + length bs ≤ most_bytes) → length bs ≤ most_bytes
 none_or_some [] f = omega arith
 none_or_some (b ∷ bs) f = let g = f (omega arith) in omega arith
 
