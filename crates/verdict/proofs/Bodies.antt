@@ -18,7 +18,7 @@ use Rattle.certdef.specs.Verdicts.{Head, wants_title, go, yes, verdict_by}
 use Rattle.certdef.specs.Bytes.{reads, start, bytes_on, verdict_at_end}
 use Rattle.verdict.specs.Bodies.{merged_cuts, merged_closing, merged, IsBodyProof, IsBodyText, sums_fit, suffices, resumer, body_verdict, reopened, resumed, YesIsBodyText, ResumedIsSound}
 use Rattle.verdict.proofs.Left.{all_named, Good}
-use Rattle.verdict.proofs.Runs.{AreOfForm, AreGood, body, items_said, yes_is_good}
+use Rattle.verdict.proofs.Runs.{AreOfForm, IsGood, AreGood, body, items_said, yes_is_good}
 use Rattle.verdict.proofs.Decisions.{tour_from_one_yes, yes_tour_from_one, proper_yes, yes_proper, cut_yes, yes_cut, below_z, z_below}
 use Rattle.verdict.proofs.Values.{all_first, all_last, edge_bounds, duals_are_closing, bound_yes, yes_bound, cuts_yes, yes_cuts, depths_at_root, depths_from_root}
 use Rattle.verdict.proofs.Bytes.{bytes_lines, lines_bytes, none_or_some}
@@ -121,26 +121,22 @@ good_body i l b ls (p, e, f, g) =
       },
     )
 
+pub body_is_good : (i : Instance) (l b : ℕ) (p : Proof) → HasForm i.n p → IsBodyProof i l b p → IsGood (resumer i) (l, b) p
+body_is_good i l b p f a =
+    let about = a.about in
+    record {
+      size = eq-eqb p.cities i.n about.size;
+      same_length = about.same;
+      bound = yes_bound i p.bound l b about.bound;
+      is_tour = yes_tour_from_one i p.tour about.from_one a.is_tour a.canonical;
+      long = eq-eqb (length_in i (from_zero p.tour)) l (sym a.long);
+      pairs = f.readable.pairs;
+      cuts = yes_cuts i.n p.cuts about.cuts;
+      tree = yes_tree i (record { long = l; bound = b; cuts = p.cuts }) (root i) p.tree f.readable.rise (depths_at_root i p.tree f.depths) a.sound;
+    }
+
 body_good : (i : Instance) (l b : ℕ) (ls : List (List ℕ)) → AreBody i ls l b → AreGood (resumer i) ls (l, b)
-body_good i l b ls (p, k) =
-    let cs = from_zero p.tour in
-    let f = k.form in
-    let a = k.body in
-    let about = a.about in (
-      p,
-      k.lines,
-      f.readable.lines,
-      record {
-        size = eq-eqb p.cities i.n about.size;
-        same_length = about.same;
-        bound = yes_bound i p.bound l b about.bound;
-        is_tour = yes_tour_from_one i p.tour about.from_one a.is_tour a.canonical;
-        long = eq-eqb (length_in i cs) l (sym a.long);
-        pairs = f.readable.pairs;
-        cuts = yes_cuts i.n p.cuts about.cuts;
-        tree = yes_tree i (record { long = l; bound = b; cuts = p.cuts }) (root i) p.tree f.readable.rise (depths_at_root i p.tree f.depths) a.sound;
-      },
-    )
+body_good i l b ls (p, k) = (p, k.lines, k.form.readable.lines, body_is_good i l b p k.form k.body)
 
 pub yes_is_body : (i : Instance) (ls : List (List ℕ)) (l b : ℕ) → i.n < 2 ^ 32 → (verdict_by (resumer i) ls ≡ yes l b) ↔ AreBody i ls l b
 yes_is_body i ls l b h =

@@ -17,3 +17,5 @@ pub mod Refusing
 pub mod WrongValues
 pub mod Merging
 pub mod Bodies
+pub mod Saying
+pub mod SayingBytes

@@ -6,3 +6,4 @@ pub mod Faults
 pub mod Refusals
 pub mod WrongValues
 pub mod Bodies
+pub mod Parts
