@@ -3,3 +3,4 @@ pub mod Answers
 pub mod Stages
 pub mod Readings
 pub mod Checkers
+pub mod Parts

@@ -10,6 +10,7 @@ mod checking;
 mod count;
 mod following;
 mod odd_cuts;
+mod part;
 mod path;
 mod progress;
 mod reading;
@@ -19,6 +20,7 @@ mod trees;
 pub use answer::{Answer, CheckError, Trouble};
 pub use checker::Checker;
 pub use checking::check;
+pub use part::Part;
 pub use sizes::Sizes;
 
 #[cfg(test)]
