@@ -1,10 +1,11 @@
 -- A tree grows part by part.
-use Rattle.std.proofs.Common.{◌≡◌, ℕ, ◌+◌, ◌-◌, ◌<◌, ◌≤◌, Bool, true, false, cond, List, [], ◌∷◌, ◌++◌, length, length-append, refl, sym, ap, subst, ◌∙◌, arith, append_assoc}
-use Rattle.std.specs.Prelude.{◌≢◌, ℤ, ◌<ℤ◌}
+use Rattle.std.proofs.Common.{◌≡◌, ℕ, ◌+◌, ◌-◌, ◌<◌, ◌≤◌, Bool, true, false, cond, List, [], ◌∷◌, ◌++◌, length, length-append, map, refl, sym, ap, subst, ◌∙◌, arith, append_assoc}
+use Rattle.std.specs.Prelude.{◌≢◌, ℤ, ◌<ℤ◌, Result, Ok, Err, OnOk}
 use Rattle.std.specs.Int.Signed.{lt_z}
 use Rattle.std.proofs.lemmas.Int.{ints}
 use Rattle.std.specs.List.{flat_map, AllByRecursion}
 use Rattle.tspdef.specs.Instances.{Instance}
+use Rattle.tspdef.specs.Fixed.{AreFixable}
 use Rattle.tspdef.specs.Paths.{Condition, root}
 use Rattle.tspdef.specs.Closings.{Closing, Fits, IsClosing}
 use Rattle.tspdef.specs.Bounds.{bound, needed}
@@ -14,9 +15,11 @@ use Rattle.treebook.specs.Tree.{Table}
 use Rattle.treebook.proofs.Growing as tables
 use Rattle.treebook.proofs.Growing.{paths_kept, closed_length, closed_grows, split_length, split_grows, closing_keeps_tables, splitting_keeps_tables}
 use Rattle.treebook.proofs.TreeLemmas.{open_nodes_are_open_leaves, fresh_is_table}
-use Rattle.verdict.specs.Bodies.{reopened}
-use Rattle.verdict.specs.Parts.{Part, opened, closed, edge, clique, preorder}
-use Rattle.resume_form.specs.Growing.{AllFit, Comes, AllCome, filled, fillings, StandsWith, IsGrowing}
+use Rattle.verdict.specs.Bodies.{reopened, reopened_for}
+use Rattle.certcheck.specs.Parts.{part_of, parts_of}
+use Rattle.certcheck.specs.declared.part.Part as P
+use Rattle.verdict.specs.Parts.{Part, the_tour, opened, closed, edge, clique, preorder}
+use Rattle.resume_form.specs.Growing.{AllFit, Comes, AllCome, filled, fillings, StandsWith, IsGrowing, Grows, IsSaid, IsGrown}
 use Rattle.resume_form.proofs.Places.{same_leaf, children_in_place}
 use Rattle.resume_form.proofs.Kept.{sides_kept, open_kept, IsChildAt, first_child, second_child}
 
@@ -351,13 +354,6 @@ ended i x y goal nodes [] (t ∷ ts) s = absurd s.come
 ended i x y goal nodes (k ∷ ks) [] s = absurd s.come
 ended i x y goal nodes (k ∷ ks) (t ∷ ts) s = absurd (none_left t (flat_map preorder ts) s.parts)
 
--- what the table is once no part is left
-pub record IsGrown (i : Instance) (goal : Tree) (total : ℕ) (table : Table) : Type 0 where
-  pub cities : table.n ≡ i.n
-  pub fixed : table.fixed ≡ i.fixed
-  pub tree : tree_of table.nodes ≡ goal
-  pub count : length table.nodes ≡ total
-
 pub grown_to : (i : Instance) (x y : ℤ) (goal : Tree) (total : ℕ) (table : Table) (ks : List ℕ) → IsGrowing i x y goal total table ks [] → IsGrown i goal total table
 grown_to i x y goal total table ks g =
     let e = ended i x y goal table.nodes ks g.trees g.stands in
@@ -376,3 +372,104 @@ some_wait i x y goal total table part rest g = none_wait i x y goal table.nodes 
 -- what exceeds the need of a bound exceeds that of a lesser level
 pub exceeds_less : (level told : ℕ) (z : ℤ) → level ≤ told → needed told <ℤ z → needed level <ℤ z
 exceeds_less level told z l h = omega (arith, ints)
+
+-- ---- the same, as the code finds them
+
+-- the first of the nodes that wait
+from_first : (i : Instance) (x y : ℤ) (goal : Tree) (total : ℕ) (table : Table) (ws : List ℕ) (k : ℕ) (ks : List ℕ) (p q : Part) (rest : List Part) → ws ≡ k ∷ ks → p ≡ q
+    → IsGrowing i x y goal total table ws (p ∷ rest) → IsGrowing i x y goal total table (k ∷ ks) (q ∷ rest)
+from_first i x y goal total table ws k ks p q rest e f g =
+    subst (λ r. IsGrowing i x y goal total table (k ∷ ks) (r ∷ rest)) f (subst (λ us. IsGrowing i x y goal total table us (p ∷ rest)) e g)
+
+-- what a split asks for
+pub record MayBeSplit (table : Table) (k : ℕ) (b : Branch) : Type 0 where
+  pub is_open : IsOpen table.nodes k
+  pub fits : MaySplit table.n (path_at table.fixed table.nodes k) b
+  pub room : 2 ≤ table.room
+
+pub may_split : (i : Instance) (x y : ℤ) (table : Table) (ws : List ℕ) (k : ℕ) (ks : List ℕ) (b : Branch) (p : Part) → ws ≡ k ∷ ks → p ≡ split_part b → (rest : List Part) × Grows i x y table ws (p ∷ rest) → MayBeSplit table k b
+may_split i x y table ws k ks b p e f h =
+    let rest = h.0 in let goal = h.1.0 in let total = h.1.1 in let g = h.1.2 in
+    let s = splits_first i x y goal total table k ks b rest (from_first i x y goal total table ws k ks p (split_part b) rest e f g) in
+    record {
+      is_open = s.is_open;
+      fits = subst (λ n. MaySplit n (path_at table.fixed table.nodes k) b) (sym g.cities) (subst (λ q. MaySplit i.n (path_at q table.nodes k) b) (sym g.fixed) s.fits);
+      room = s.room;
+    }
+
+pub split_takes : (i : Instance) (x y : ℤ) (table more : Table) (ws us : List ℕ) (k : ℕ) (ks : List ℕ) (b : Branch) (p : Part) → ws ≡ k ∷ ks → p ≡ split_part b
+    → more ≡ record table { nodes = split_at table.nodes k b; room = table.room - 2 } → us ≡ length table.nodes ∷ (length table.nodes + 1) ∷ ks
+    → (goal : Tree) (total : ℕ) (rest : List Part) → IsGrowing i x y goal total table ws (p ∷ rest) → IsGrowing i x y goal total more us rest
+split_takes i x y table more ws us k ks b p e f t u goal total rest g =
+    subst (λ q. IsGrowing i x y goal total q us rest) (sym t)
+    (subst (λ q. IsGrowing i x y goal total (record table { nodes = split_at table.nodes k b; room = table.room - 2 }) q rest) (sym u)
+    (split_taken i x y goal total table k ks b rest (from_first i x y goal total table ws k ks p (split_part b) rest e f g)))
+
+-- what closing asks for
+pub record MayBeClosed (i : Instance) (x : ℤ) (table : Table) (k : ℕ) (c : Closing) : Type 0 where
+  pub cities : table.n ≡ i.n
+  pub fixed : table.fixed ≡ i.fixed
+  pub first : ClosesFirst i x table.nodes k c
+
+pub may_close : (i : Instance) (x y : ℤ) (table : Table) (ws : List ℕ) (k : ℕ) (ks : List ℕ) (c : Closing) (p : Part) → ws ≡ k ∷ ks → p ≡ closed c → (rest : List Part) × Grows i x y table ws (p ∷ rest) → MayBeClosed i x table k c
+may_close i x y table ws k ks c p e f h =
+    let rest = h.0 in let goal = h.1.0 in let total = h.1.1 in let g = h.1.2 in
+    record { cities = g.cities; fixed = g.fixed; first = closes_first i x y goal total table k ks c rest (from_first i x y goal total table ws k ks p (closed c) rest e f g) }
+
+either_closed : (i : Instance) (x y : ℤ) (goal : Tree) (total : ℕ) (table more : Table) (k : ℕ) (ks : List ℕ) (c : Closing) (rest : List Part) (v : Bool) → lt_z y (bound i (path_at i.fixed table.nodes k) c) ≡ v
+    → more ≡ cond v (record table { nodes = closed_at table.nodes k c }) table → IsGrowing i x y goal total table (k ∷ ks) (closed c ∷ rest) → IsGrowing i x y goal total more ks rest
+either_closed i x y goal total table more k ks c rest true e t g = subst (λ q. IsGrowing i x y goal total q ks rest) (sym t) (closed_taken i x y goal total table k ks c rest e g)
+either_closed i x y goal total table more k ks c rest false e t g = subst (λ q. IsGrowing i x y goal total q ks rest) (sym t) (weak_taken i x y goal total table k ks c rest e g)
+
+pub closed_takes : (i : Instance) (x y : ℤ) (table more : Table) (ws : List ℕ) (k : ℕ) (ks : List ℕ) (c : Closing) (p : Part) → ws ≡ k ∷ ks → p ≡ closed c
+    → more ≡ cond (lt_z y (bound i (path_at i.fixed table.nodes k) c)) (record table { nodes = closed_at table.nodes k c }) table
+    → (goal : Tree) (total : ℕ) (rest : List Part) → IsGrowing i x y goal total table ws (p ∷ rest) → IsGrowing i x y goal total more ks rest
+closed_takes i x y table more ws k ks c p e f t goal total rest g =
+    either_closed i x y goal total table more k ks c rest (lt_z y (bound i (path_at i.fixed table.nodes k) c)) refl t (from_first i x y goal total table ws k ks p (closed c) rest e f g)
+
+pub open_takes : (i : Instance) (x y : ℤ) (table : Table) (ws : List ℕ) (k : ℕ) (ks : List ℕ) (p : Part) → ws ≡ k ∷ ks → p ≡ opened
+    → (goal : Tree) (total : ℕ) (rest : List Part) → IsGrowing i x y goal total table ws (p ∷ rest) → IsGrowing i x y goal total table ks rest
+open_takes i x y table ws k ks p e f goal total rest g = open_taken i x y goal total table k ks rest (from_first i x y goal total table ws k ks p opened rest e f g)
+
+-- a tour is no node
+tour_first : (t : Tree) (cities : List ℕ) (more rest : List Part) → the_tour cities ∷ rest ≡ preorder t ++ more → ⊥
+tour_first open_leaf cities more rest e = cc
+tour_first (closed_leaf c) cities more rest e = cc
+tour_first (edge_split u v a b) cities more rest e = cc
+tour_first (clique_split s a b) cities more rest e = cc
+
+no_tour : (i : Instance) (x y : ℤ) (goal : Tree) (nodes : List Node) (ks : List ℕ) (cities : List ℕ) (rest : List Part) (ts : List Tree) → StandsWith i x y goal nodes ks (the_tour cities ∷ rest) ts → ⊥
+no_tour i x y goal nodes ks cities rest [] s = let e = s.parts in cc
+no_tour i x y goal nodes ks cities rest (t ∷ ts) s = tour_first t cities (flat_map preorder ts) rest s.parts
+
+pub tour_takes : (i : Instance) (x y : ℤ) (table : Table) (ws : List ℕ) (cities : List ℕ) (p : Part) (any : Type 0) → p ≡ the_tour cities
+    → (goal : Tree) (total : ℕ) (rest : List Part) → IsGrowing i x y goal total table ws (p ∷ rest) → any
+tour_takes i x y table ws cities p any f goal total rest g =
+    absurd (no_tour i x y goal table.nodes ws cities rest g.trees (subst (λ r. StandsWith i x y goal table.nodes ws (r ∷ rest) g.trees) f g.stands))
+
+pub ok_then : {E : Type 0} (r : Result (Unit {0}) E) (P Q : Type 0) → OnOk r P → (P → Q) → OnOk r Q
+ok_then (Ok v) P Q p f = f p
+ok_then (Err e) P Q p f = tt
+
+pub length_parts : (f : P.Part → Part) (ps : List P.Part) → length (map f ps) ≡ length ps
+length_parts f [] = refl
+length_parts f (p ∷ ps) = let r = length_parts f ps in omega arith
+
+-- the start, as the code finds it
+pub starts : (i : Instance) (told level : ℕ) (table : Table) (ps : List P.Part) (ws : List ℕ) → AreFixable i.n i.fixed → ws ≡ 0 ∷ [] → table ≡ record { n = i.n; fixed = i.fixed; nodes = fresh; room = length ps }
+    → (said : Tree) → IsSaid i told (parts_of ps) said → IsGrowing i (needed told) (needed level) (reopened_for i level said) (length (parts_of ps)) table ws (parts_of ps)
+starts i told level table ps ws pairs e f said h =
+    let len = length_parts part_of ps in
+    let fresh_table : Table = record { n = i.n; fixed = i.fixed; nodes = fresh; room = length ps } in
+    subst (λ q. IsGrowing i (needed told) (needed level) (reopened_for i level said) (length (parts_of ps)) q ws (parts_of ps)) (sym f)
+    (subst (λ q. IsGrowing i (needed told) (needed level) (reopened_for i level said) (length (parts_of ps)) fresh_table q (parts_of ps)) (sym e)
+    (growing_from i (needed told) (needed level) said fresh_table (parts_of ps) (record { below = pairs.below; rising = pairs.rising }) h.sound h.fit h.all refl refl refl (omega arith)))
+
+-- the end
+pub ends : (i : Instance) (told level : ℕ) (table : Table) (ps left : List P.Part) (ws : List ℕ) → length left ≡ 0
+    → ((said : Tree) → IsSaid i told (parts_of ps) said → IsGrowing i (needed told) (needed level) (reopened_for i level said) (length (parts_of ps)) table ws (parts_of left))
+    → (said : Tree) → IsSaid i told (parts_of ps) said → IsGrown i (reopened_for i level said) (length ps) table
+ends i told level table ps [] ws e g said h =
+    let k = grown_to i (needed told) (needed level) (reopened_for i level said) (length (parts_of ps)) table ws (g said h) in
+    record { cities = k.cities; fixed = k.fixed; tree = k.tree; count = k.count ∙ length_parts part_of ps }
+ends i told level table ps (p ∷ left) ws e g said h = absurd (omega arith)

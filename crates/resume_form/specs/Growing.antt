@@ -2,9 +2,9 @@
 use Rattle.std.specs.Prelude.{◌≡◌, ◌≢◌, ℕ, ◌+◌, ◌≤◌, List, [], ◌∷◌, ◌++◌, length, ℤ}
 use Rattle.std.specs.List.{flat_map, AllByRecursion}
 use Rattle.tspdef.specs.Instances.{Instance}
-use Rattle.tspdef.specs.Paths.{Condition, absent, present, two, four}
+use Rattle.tspdef.specs.Paths.{Condition, absent, present, two, four, root}
 use Rattle.tspdef.specs.Closings.{Fits}
-use Rattle.tspdef.specs.Trees.{Tree, open_leaf, closed_leaf, edge_split, clique_split, IsSound, Side, with_leaf}
+use Rattle.tspdef.specs.Trees.{Tree, open_leaf, closed_leaf, edge_split, clique_split, IsSound, IsSoundFor, Side, with_leaf}
 use Rattle.treebook.specs.Tables.{Node, path_at, sides_of, tree_of, IsTable, IsOpen}
 use Rattle.treebook.specs.Tree.{Table}
 use Rattle.verdict.specs.Bodies.{reopened}
@@ -60,3 +60,16 @@ pub record IsGrowing (i : Instance) (x y : ℤ) (goal : Tree) (total : ℕ) (tab
 -- the same for some goal and number of nodes
 abbrev pub Grows : Instance → ℤ → ℤ → Table → List ℕ → List Part → Type 0
 Grows i x y table waiting left = (goal : Tree) × (total : ℕ) × IsGrowing i x y goal total table waiting left
+
+-- the parts are the nodes of a tree that is sound for the bound told, and whose closings fit
+pub record IsSaid (i : Instance) (told : ℕ) (parts : List Part) (said : Tree) : Type 0 where
+  pub all : parts ≡ preorder said
+  pub sound : IsSoundFor i told said
+  pub fit : AllFit i.n (root i) said
+
+-- the table of a tree of the instance, with so many nodes
+pub record IsGrown (i : Instance) (goal : Tree) (total : ℕ) (table : Table) : Type 0 where
+  pub cities : table.n ≡ i.n
+  pub fixed : table.fixed ≡ i.fixed
+  pub tree : tree_of table.nodes ≡ goal
+  pub count : length table.nodes ≡ total

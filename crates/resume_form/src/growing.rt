@@ -1,18 +1,16 @@
 //! A tree that grows out of its nodes in preorder.
-ghost use Rattle.std.specs.Prelude.{◌≡◌, ℕ, ◌+◌, ◌-◌, ◌*◌, ◌<◌, ◌≤◌, ◌<ℤ◌, List, [], ◌∷◌, length, IfOk, OnOk, if◌then◌else◌};
+ghost use Rattle.std.specs.Prelude.{◌≡◌, ℕ, ◌+◌, ◌-◌, ◌<◌, ◌≤◌, ◌<ℤ◌, List, ◌∷◌, length, IfOk, OnOk, if◌then◌else◌};
 ghost use Rattle.std.specs.Int.Signed.{lt_z};
 ghost use Rattle.tspdef.specs.Bounds as bounds;
 ghost use Rattle.tspdef.specs.Closings.{Fits, IsClosing};
-ghost use Rattle.tspdef.specs.Paths.{root};
+ghost use Rattle.tspdef.specs.Fixed.{AreFixable};
 ghost use Rattle.tspdef.specs.Trees as trees;
-ghost use Rattle.tspdef.specs.Trees.{IsSoundFor};
-ghost use Rattle.treebook.specs.Tables.{path_at, tree_of, IsOpen, MaySplit, closed_at, split_at};
+ghost use Rattle.treebook.specs.Tables.{fresh, path_at, IsOpen, MaySplit, closed_at, split_at};
 ghost use Rattle.treebook.specs.Tree.{branch_of};
 ghost use Rattle.verdict.specs.Bodies.{reopened_for};
 ghost use Rattle.verdict.specs.Parts as parts;
-ghost use Rattle.verdict.specs.Parts.{preorder};
 ghost use Rattle.certcheck.specs.Parts.{part_of, parts_of};
-ghost use Rattle.resume_form.specs.Growing.{AllFit, IsGrowing, Grows};
+ghost use Rattle.resume_form.specs.Growing.{IsGrowing, Grows, IsSaid, IsGrown};
 
 use branchx::Branch;
 use certcheck::Part;
@@ -112,6 +110,43 @@ fn take(
             close(tree, instance, told, level, node, closing);
             Ok(())
         }
-        Part::Open | Part::Tour(_) => Ok(()),
+        Part::Open => Ok(()),
+        Part::Tour(_) => Ok(()),
     }
+}
+
+/// The tree of one open node, with room for so many more.
+fn seedling(alloc: Global, instance: &Instance, room: u32) -> Result<Tree, AllocError>
+    requires { room ≤ 1048576 }
+    ensures table { IfOk result (λ r. r ≡ record { n = instance.now.n; fixed = instance.now.fixed; nodes = fresh; room = room }) }
+    ensures pairs { AreFixable instance.now.n instance.now.fixed }
+{
+    let mut tree = Tree::with_fixed(alloc, instance.n(), instance.fixed())?;
+    tree.reserve(alloc, room)?;
+    Ok(tree)
+}
+
+/// The tree whose nodes in preorder the parts are, with leaves open whose closings are too weak for the level.
+///
+/// The nodes that are still to come wait in a list, and no depth of the tree uses up the stack of the program. O(nodes) in time and
+/// memory; and where the level is above the bound that is told, one pass over all pairs a leaf.
+pub(crate) fn grow(
+    alloc: Global,
+    instance: &Instance,
+    mut parts: VecDeque<Part>,
+    told: u64,
+    level: u64,
+) -> Result<Tree, AllocError>
+    requires said { (said : trees.Tree) × IsSaid instance.now told (parts_of parts.items) said }
+    requires few { length parts.items ≤ 1048576 }
+    ensures { IfOk result (λ r. (said : trees.Tree) → IsSaid instance.now told (parts_of parts.items) said
+        → IsGrown instance.now (reopened_for instance.now level said) (length parts.items) r) }
+{
+    let mut tree = seedling(alloc, instance, parts.len() as u32)?;
+    let mut waiting = VecDeque::new(alloc);
+    waiting.push_front(0u32)?;
+    while let Some(part) = parts.pop_front() {
+        take(&mut tree, &mut waiting, instance, told, level, part)?;
+    }
+    Ok(tree)
 }
