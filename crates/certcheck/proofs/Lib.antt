@@ -1,5 +1,6 @@
 pub mod PathLemmas
 pub mod FollowLemmas
+pub mod MarkLemmas
 pub mod StepLemmas
 pub mod ReadingLemmas
 pub mod CheckLemmas

@@ -1,4 +1,5 @@
 pub mod Paths
+pub mod Marked
 pub mod Answers
 pub mod Stages
 pub mod Readings

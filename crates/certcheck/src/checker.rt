@@ -14,7 +14,8 @@ use tspinst::Instance;
 /// A verifier of proofs about one instance, which is fed a text in pieces of any sizes and answers as `check` does.
 ///
 /// Contracts see the instance and where the reading of the text stands. A piece that is refused uses the checker up, and so does
-/// want of memory. Memory is bounded by the path, the cuts, one leaf and one line, as `sizes` counts them.
+/// want of memory. Memory is bounded by the path, the cuts, one leaf and one line, as `sizes` counts them, and a table of a byte for
+/// each two of the cities.
 #[derive(Drop)]
 pub struct Checker<'a> {
     instance: &'a Instance,

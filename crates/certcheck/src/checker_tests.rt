@@ -9,7 +9,12 @@ use std::test::Fail;
 use tspinst::Instance;
 
 /// The answer that a checker gives on a text in pieces of so many bytes.
-fn in_pieces(alloc: Global, instance: &Instance, text: &[u8], most: usize) -> Result<Answer, Fail>
+pub(crate) fn in_pieces(
+    alloc: Global,
+    instance: &Instance,
+    text: &[u8],
+    most: usize,
+) -> Result<Answer, Fail>
     requires { 0 < most }
 {
     let mut checker = Checker::new(alloc, instance);

@@ -26,8 +26,9 @@ const BLOCK: usize = 1 << 16;
 ///
 /// Fixed pairs stand on each path, from the root on: a tour without one is refused, and so is a split by one.
 ///
-/// A leaf costs one pass over the pairs of cities, the tour O(cities + fixed pairs), a split O(depth + fixed pairs) and the dual of
-/// a condition O(fixed pairs); other lines cost O(1) a byte.
+/// A leaf costs one pass over the pairs of cities, the tour O(cities + fixed pairs) and the dual of a condition O(fixed pairs); other
+/// lines, splits among them, cost O(1) a byte. Which pairs are decided stands in a table of a byte for each two of the cities, which is
+/// made once, for the first pair.
 pub fn check<D: Desk>(
     alloc: Global,
     instance: &Instance,

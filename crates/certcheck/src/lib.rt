@@ -1,7 +1,7 @@
 //! The verifier: whether the bytes of a desk's proof are the text of an accepted proof, and else the first refusal.
 //!
-//! No tree is kept: memory is bounded by the path of the node that is read, the cuts and one leaf, and no recursion follows the
-//! depth of the tree.
+//! No tree is kept: memory is bounded by the path of the node that is read, a table of the pairs that it decides, the cuts and one leaf,
+//! and no recursion follows the depth of the tree.
 #![tactic(auto)]
 
 mod answer;
@@ -9,6 +9,7 @@ mod checker;
 mod checking;
 mod count;
 mod following;
+mod marked;
 mod odd_cuts;
 mod part;
 mod path;
@@ -25,5 +26,7 @@ pub use sizes::Sizes;
 
 #[cfg(test)]
 mod checker_tests;
+#[cfg(test)]
+mod form_tests;
 #[cfg(test)]
 mod tests;

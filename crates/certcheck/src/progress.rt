@@ -10,7 +10,7 @@ ghost use Rattle.certtests.specs.Listed.{listed};
 ghost use Rattle.certcheck.specs.Stages.{head, handle_of, teeth_of, stage_of, IsHandle, IsOf, Stands, Goes};
 
 use crate::answer::Trouble;
-use branchx::Path;
+use crate::marked::MarkedPath;
 use certline::Item;
 use certtests::{canonical_tour, city_set, comb, has_length, subtour};
 use cutform::Cut;
@@ -56,7 +56,7 @@ pub(crate) struct Progress {
     pub(crate) handle: Option<CitySet>,
     pub(crate) teeth: Vec<CitySet>,
     pub(crate) pairs: Vec<(u32, u32)>,
-    pub(crate) path: Path,
+    pub(crate) path: MarkedPath,
     pub(crate) cities: Vec<(u32, i64)>,
     pub(crate) cut_duals: Vec<(u32, u64)>,
     pub(crate) condition_duals: Vec<(u32, u64)>,
@@ -76,7 +76,7 @@ impl Progress {
             handle: None,
             teeth: Vec::new(alloc),
             pairs: Vec::new(alloc),
-            path: Path::new(alloc, n),
+            path: MarkedPath::new(alloc, n),
             cities: Vec::new(alloc),
             cut_duals: Vec::new(alloc),
             condition_duals: Vec::new(alloc),
@@ -214,7 +214,7 @@ impl Progress {
         ensures { Goes instance.now.n result self.new (spec.go (spec.cuts_on (verifier instance.now) (head self.old) left)) }
     {
         if left == 0 {
-            self.path = Path::root(alloc, instance.n(), instance.fixed())?;
+            self.path = MarkedPath::root(alloc, instance.n(), instance.fixed())?;
             self.stage = Stage::Tree;
         } else {
             self.stage = Stage::Cut(left - 1);

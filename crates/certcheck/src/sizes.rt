@@ -26,7 +26,7 @@ impl Progress {
         ensures { result ≡ depth_at (stage_of self.now) }
     {
         match self.stage {
-            Stage::Tree | Stage::Duals(_, _, _, _) => count_splits(&self.path),
+            Stage::Tree | Stage::Duals(_, _, _, _) => count_splits(self.path.path()),
             _ => 0,
         }
     }

@@ -14,7 +14,7 @@ use crate::answer::Trouble;
 use crate::following::{may_follow, may_follow_city};
 use crate::path::next_child;
 use crate::progress::{Progress, Stage};
-use branchx::{Cond, decided};
+use branchx::Cond;
 use certline::{Item, read_line};
 use certtests::{city_set, closes, is_proper, names_clique};
 use std::alloc::Global;
@@ -34,7 +34,7 @@ impl Progress {
         ensures { Goes instance.now.n result self.new (spec.on_tree (verifier instance.now) (head self.old) self.old.path.conditions (later self.old.path.conditions) at (said item)) }
     {
         match item {
-            Item::Edge(u, v) => self.on_edge(instance, at, u, v),
+            Item::Edge(u, v) => self.on_edge(alloc, instance, at, u, v),
             Item::Clique(set) => self.on_clique(alloc, instance, at, set),
             Item::Leaf(a, b, c) => {
                 self.cities.clear();
@@ -48,7 +48,14 @@ impl Progress {
     }
 
     /// Splits the node by a pair of cities.
-    fn on_edge(&mut self, instance: &Instance, at: u64, u: u32, v: u32) -> Result<(), Trouble>
+    fn on_edge(
+        &mut self,
+        alloc: Global,
+        instance: &Instance,
+        at: u64,
+        u: u32,
+        v: u32,
+    ) -> Result<(), Trouble>
         requires of { IsOf instance.now.n self.old }
         requires least { 1 ≤ u }
         requires rises { u < v }
@@ -56,10 +63,10 @@ impl Progress {
         ensures { Goes instance.now.n result self.new (spec.on_tree (verifier instance.now) (head self.old) self.old.path.conditions (later self.old.path.conditions) at (edge_line u v)) }
     {
         let (u, v) = (u - 1, v - 1);
-        if decided(&self.path, u, v) {
+        if self.path.decides(u, v) {
             return Err(Trouble::Refused(6, at));
         }
-        self.path.push(Cond::Absent(u, v))?;
+        self.path.push(alloc, Cond::Absent(u, v))?;
         self.stage = Stage::Tree;
         Ok(())
     }
@@ -80,7 +87,7 @@ impl Progress {
         if !is_proper(&set) {
             return Err(Trouble::Refused(5, at));
         }
-        self.path.push(Cond::Two(set))?;
+        self.path.push(alloc, Cond::Two(set))?;
         self.stage = Stage::Tree;
         Ok(())
     }
@@ -117,22 +124,22 @@ impl Progress {
             instance,
             self.bound,
             &self.cuts,
-            &self.path,
+            self.path.path(),
             &self.cities,
             &self.cut_duals,
             &self.condition_duals,
         )? {
             return Err(Trouble::Refused(7, from));
         }
-        self.end_tree(instance)
+        self.end_tree(alloc, instance)
     }
 
     /// Goes to the next tree, if there is one.
-    fn end_tree(&mut self, instance: &Instance) -> Result<(), Trouble>
+    fn end_tree(&mut self, alloc: Global, instance: &Instance) -> Result<(), Trouble>
         requires { IsOf instance.now.n self.old }
         ensures { Goes instance.now.n result self.new (spec.go (spec.wants_trees (head self.old) (later self.old.path.conditions))) }
     {
-        if next_child(&mut self.path)? {
+        if next_child(alloc, &mut self.path)? {
             self.stage = Stage::Tree;
         } else {
             self.stage = Stage::End;
@@ -211,7 +218,7 @@ impl Progress {
         let Item::CondDual(depth, dual) = item else {
             return Err(Trouble::Refused(1, at));
         };
-        if !may_follow(&self.condition_duals, depth) || !names_clique(&self.path, depth) {
+        if !may_follow(&self.condition_duals, depth) || !names_clique(self.path.path(), depth) {
             return Err(Trouble::Refused(1, at));
         }
         self.condition_duals.push((depth, dual))?;

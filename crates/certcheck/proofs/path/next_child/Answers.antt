@@ -7,13 +7,13 @@ use Rattle.certcheck.proofs.path.next_child.Goals as goal
 
 pub push-requires : goal.push-requires
 push-requires c =
-    let path = c.take_last.new.path in
+    let path = c.pop.new.self in
     second_follows path.n path.conditions (condition_of c.in-Some.last) (condition_of c.in-Some-second_of.cond) c.in-Some.ensures.follows (sym c.in-Some-second_of.ensures)
 
 pub returns-in-Some-second_of-clause-more : goal.returns-in-Some-second_of-clause-more
 returns-in-Some-second_of-clause-more c = λ yes.
     ap (λ (p : Conditions). p.conditions ∷ later p.conditions) c.in_ok-push.ensures.ok
-    ∙ (goes_on c.take_last.new.path.conditions (condition_of c.in-Some.last) (condition_of c.in-Some-second_of.cond) (sym c.in-Some-second_of.ensures)
+    ∙ (goes_on c.pop.new.self.conditions (condition_of c.in-Some.last) (condition_of c.in-Some-second_of.cond) (sym c.in-Some-second_of.ensures)
     ∙ (ap (λ (p : Conditions). later p.conditions) (sym c.in-Some.ensures.last)
     ∙ c.loop-last.invariant.0))
 
@@ -22,8 +22,8 @@ returns-clause-none c = λ no. sym c.loop-last.invariant.0 ∙ later_fixed c.loo
 
 pub loop-last-preserved : goal.loop-last-preserved
 loop-last-preserved c = (
-  sym (goes_up c.take_last.new.path.conditions (condition_of c.in-Some.last) (sym c.in_default-second_of.ensures))
+  sym (goes_up c.pop.new.self.conditions (condition_of c.in-Some.last) (sym c.in_default-second_of.ensures))
       ∙ (ap (λ (p : Conditions). later p.conditions) (sym c.in-Some.ensures.last)
       ∙ c.loop-last.invariant.0),
-  c.take_last.ensures.same ∙ c.loop-last.invariant.1,
+  c.pop.ensures.same ∙ c.loop-last.invariant.1,
 )

@@ -9,6 +9,6 @@ pub returns : goal.returns
 returns c =
     let s = c.args.self.now in (
       edge_goes (verifier c.args.instance.now) (head s) s.path.conditions c.push.new.self.conditions c.args.at c.args.u c.args.v
-          (sym c.decided.ensures ∙ c.if-decided.false) (ap (λ (p : Conditions). p.conditions) c.in_ok-push.ensures.ok),
+          (sym c.decides.ensures ∙ c.if-decides.false) (ap (λ (p : Conditions). p.conditions) c.in_ok-push.ensures.ok),
       record { of = record { path = ap (λ (p : Conditions). p.n) c.in_ok-push.ensures.ok ∙ c.requires.of.path; cuts = c.requires.of.cuts }; stage = tt },
     )
