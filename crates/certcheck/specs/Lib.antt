@@ -5,3 +5,4 @@ pub mod Stages
 pub mod Readings
 pub mod Checkers
 pub mod Parts
+pub mod Purposes

@@ -14,6 +14,7 @@ mod odd_cuts;
 mod part;
 mod path;
 mod progress;
+mod purpose;
 mod reading;
 mod sizes;
 mod trees;

@@ -1,10 +1,10 @@
 //! A text that comes in pieces.
 ghost use Rattle.std.specs.Prelude.{◌≡◌, ℕ, ◌<◌, ◌≤◌, ◌+◌, ◌^◌, ◌∷◌, [], ◌++◌, true};
 ghost use Rattle.certdef.specs.Items.{item_of};
-ghost use Rattle.certdef.specs.Tests.{verifier};
 ghost use Rattle.certdef.specs.Verdicts as spec;
 ghost use Rattle.certdef.specs.Bytes.{start, reads, line_on, byte_on, bytes_on, end_of};
 ghost use Rattle.certcheck.specs.Answers.{verdict_of};
+ghost use Rattle.certcheck.specs.Purposes.{tests_by};
 ghost use Rattle.certcheck.specs.Stages.{stage_of, Stands};
 ghost use Rattle.certcheck.specs.Readings.{reading_of, Reads, HasNoLineEnd, HasRoom};
 ghost use Rattle.certcheck.specs.Checkers.{sizes_of};
@@ -12,6 +12,7 @@ ghost use Rattle.certcheck.specs.Checkers.{sizes_of};
 use crate::answer::{Answer, Trouble};
 use crate::count::Count;
 use crate::progress::{Progress, Stage};
+use crate::purpose::Purpose;
 use crate::sizes::Sizes;
 use memchr::memchr;
 use std::alloc::Global;
@@ -33,13 +34,14 @@ pub(crate) struct Reading {
 
 impl Reading {
     /// Before the first byte of a text for n cities.
-    pub(crate) fn new(alloc: Global, n: u32) -> Reading
+    pub(crate) fn new(alloc: Global, n: u32, purpose: Purpose) -> Reading
+        ensures purpose { result.progress.purpose ≡ purpose }
         ensures start { reading_of result ≡ start }
         ensures stands { Stands n result.progress }
     {
         Reading {
             count: Count::new(),
-            progress: Progress::new(alloc, n),
+            progress: Progress::new(alloc, n, purpose),
             begun: Vec::new(alloc),
         }
     }
@@ -48,7 +50,8 @@ impl Reading {
     fn end_line(&mut self, alloc: Global, instance: &Instance) -> Result<(), Trouble>
         requires few { self.old.count.read < 2 ^ 60 }
         requires stands { Stands instance.now.n self.old.progress }
-        ensures { Reads instance.now.n result self.new (line_on self.old.count.at self.old.count.read (spec.line_step (verifier instance.now) self.old.count.at (stage_of self.old.progress) (item_of instance.now.n self.old.begun.items))) }
+        ensures reads { Reads instance.now.n result self.new (line_on self.old.count.at self.old.count.read (spec.line_step (tests_by self.old.progress.purpose instance.now) self.old.count.at (stage_of self.old.progress) (item_of instance.now.n self.old.begun.items))) }
+        ensures same { self.new.progress.purpose ≡ self.old.progress.purpose }
     {
         self.progress
             .line(alloc, instance, self.count.at(), &self.begun)?;
@@ -60,7 +63,8 @@ impl Reading {
     /// Takes a byte.
     fn byte(&mut self, alloc: Global, instance: &Instance, byte: u8) -> Result<(), Trouble>
         requires { Stands instance.now.n self.old.progress }
-        ensures { Reads instance.now.n result self.new (byte_on (verifier instance.now) (reading_of self.old) byte) }
+        ensures reads { Reads instance.now.n result self.new (byte_on (tests_by self.old.progress.purpose instance.now) (reading_of self.old) byte) }
+        ensures same { self.new.progress.purpose ≡ self.old.progress.purpose }
     {
         if self.count.read() >= MOST {
             return Err(Trouble::Refused(10, self.count.at()));
@@ -83,7 +87,8 @@ impl Reading {
     fn run(&mut self, alloc: Global, instance: &Instance, run: &[u8]) -> Result<(), Trouble>
         requires stands { Stands instance.now.n self.old.progress }
         requires no_end { HasNoLineEnd run.now }
-        ensures { Reads instance.now.n result self.new (bytes_on (verifier instance.now) (reads (reading_of self.old)) run.now) }
+        ensures reads { Reads instance.now.n result self.new (bytes_on (tests_by self.old.progress.purpose instance.now) (reads (reading_of self.old)) run.now) }
+        ensures same { self.new.progress.purpose ≡ self.old.progress.purpose }
     {
         if !self.has_room(run.len()) {
             return self.one_by_one(alloc, instance, run);
@@ -101,7 +106,8 @@ impl Reading {
         bytes: &[u8],
     ) -> Result<(), Trouble>
         requires { Stands instance.now.n self.old.progress }
-        ensures { Reads instance.now.n result self.new (bytes_on (verifier instance.now) (reads (reading_of self.old)) bytes.now) }
+        ensures reads { Reads instance.now.n result self.new (bytes_on (tests_by self.old.progress.purpose instance.now) (reads (reading_of self.old)) bytes.now) }
+        ensures same { self.new.progress.purpose ≡ self.old.progress.purpose }
     {
         for byte in bytes {
             self.byte(alloc, instance, *byte)?;
@@ -113,7 +119,8 @@ impl Reading {
     fn line(&mut self, alloc: Global, instance: &Instance, run: &[u8]) -> Result<(), Trouble>
         requires stands { Stands instance.now.n self.old.progress }
         requires no_end { HasNoLineEnd run.now }
-        ensures { Reads instance.now.n result self.new (bytes_on (verifier instance.now) (reads (reading_of self.old)) (run.now ++ 10 ∷ [])) }
+        ensures reads { Reads instance.now.n result self.new (bytes_on (tests_by self.old.progress.purpose instance.now) (reads (reading_of self.old)) (run.now ++ 10 ∷ [])) }
+        ensures same { self.new.progress.purpose ≡ self.old.progress.purpose }
     {
         if !self.begun.is_empty() || !self.has_room(run.len()) {
             self.run(alloc, instance, run)?;
@@ -144,7 +151,8 @@ impl Reading {
         piece: &[u8],
     ) -> Result<(), Trouble>
         requires { Stands instance.now.n self.old.progress }
-        ensures { Reads instance.now.n result self.new (bytes_on (verifier instance.now) (reads (reading_of self.old)) piece.now) }
+        ensures reads { Reads instance.now.n result self.new (bytes_on (tests_by self.old.progress.purpose instance.now) (reads (reading_of self.old)) piece.now) }
+        ensures same { self.new.progress.purpose ≡ self.old.progress.purpose }
     {
         let mut rest = piece;
         while let Some(end) = memchr(b'\n', rest) {
