@@ -5,6 +5,7 @@
 #![tactic(auto)]
 
 mod answer;
+mod bodies;
 mod checker;
 mod checking;
 mod count;

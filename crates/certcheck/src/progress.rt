@@ -227,18 +227,23 @@ impl Progress {
     }
 
     /// Goes on with the cuts that are left, or with the tree, whose root has the fixed pairs.
-    fn cuts_on(&mut self, alloc: Global, instance: &Instance, left: u32) -> Result<Option<Part>, Trouble>
+    fn cuts_on(
+        &mut self,
+        alloc: Global,
+        instance: &Instance,
+        left: u32,
+    ) -> Result<Option<Part>, Trouble>
         requires { IsOf instance.now.n self.old }
         ensures goes { Goes instance.now.n result self.new (spec.go (spec.cuts_on (tests_by self.old.purpose instance.now) (head self.old) left)) }
         ensures same { self.new.purpose ≡ self.old.purpose }
         ensures says { IfOk result (λ o. o ≡ None) }
     {
-        if left == 0 {
-            self.path = MarkedPath::root(alloc, instance.n(), instance.fixed())?;
-            self.stage = Stage::Tree;
-        } else {
+        if left != 0 {
             self.stage = Stage::Cut(left - 1);
+            return Ok(None);
         }
+        self.path = MarkedPath::root(alloc, instance.n(), instance.fixed())?;
+        self.stage = Stage::Tree;
         Ok(None)
     }
 

@@ -1,6 +1,6 @@
 //! The lines of the tree.
-ghost use Rattle.std.specs.Prelude.{◌≡◌, IfOk, ◌<◌, ◌≤◌, [], ◌∷◌, suc, true, length, if◌then◌else◌};
-ghost use Rattle.certdef.specs.Items.{fits, item_of, is_set, edge_line, clique_line, open_line};
+ghost use Rattle.std.specs.Prelude.{◌≡◌, IfOk, ◌<◌, ◌≤◌, suc, true, length, if◌then◌else◌};
+ghost use Rattle.certdef.specs.Items.{fits, item_of, is_set, edge_line, clique_line};
 ghost use Rattle.certdef.specs.Tests.{verifier};
 ghost use Rattle.certdef.specs.Verdicts as spec;
 ghost use Rattle.tspdef.specs.Paths.{MayFollow};
@@ -8,7 +8,6 @@ ghost use Rattle.branchx.specs.Cond.{condition_of};
 ghost use Rattle.certline.specs.Said.{said};
 ghost use Rattle.certtests.specs.Duals.{AreDuals};
 ghost use Rattle.certcheck.specs.Paths.{later};
-ghost use Rattle.verdict.specs.Bodies.{resumer};
 ghost use Rattle.verdict.specs.Parts as parts;
 ghost use Rattle.certcheck.specs.Purposes.{tests_by, parts_in};
 ghost use Rattle.certcheck.specs.Stages.{head, duals, open_duals, stage_of, IsOf, Stands, Goes};
@@ -21,9 +20,8 @@ use crate::progress::{Progress, Stage};
 use crate::purpose::Purpose;
 use branchx::Cond;
 use certline::{Item, read_line};
-use certtests::{city_set, closes, closing_if_enough, is_proper, names_clique};
-use cyc::CitySet;
-use std::alloc::{AllocError, Global};
+use certtests::{city_set, closes, is_proper, names_clique};
+use std::alloc::Global;
 use tspinst::Instance;
 
 impl Progress {
@@ -128,32 +126,6 @@ impl Progress {
         self.close(alloc, instance, from)
     }
 
-    /// The part that a split by a set is, which a body says.
-    fn clique_part(&self, alloc: Global, set: &CitySet) -> Result<Option<Part>, AllocError>
-        ensures { IfOk result (λ o. self.now.purpose ≡ Purpose.Resume → parts_in o ≡ parts.clique set.now.cities ∷ []) }
-    {
-        match self.purpose {
-            Purpose::Verify => Ok(None),
-            Purpose::Resume => Ok(Some(Part::Clique(set.copy(alloc)?))),
-        }
-    }
-
-    /// Takes an open leaf.
-    fn open(&mut self, alloc: Global, instance: &Instance, at: u64) -> Result<Option<Part>, Trouble>
-        requires of { IsOf instance.now.n self.old }
-        ensures goes { Goes instance.now.n result self.new (spec.on_tree (tests_by self.old.purpose instance.now) (head self.old) self.old.path.conditions (later self.old.path.conditions) at open_line) }
-        ensures same { self.new.purpose ≡ self.old.purpose }
-        ensures says { IfOk result (λ o. parts_in o ≡ parts.opened ∷ []) }
-    {
-        match self.purpose {
-            Purpose::Verify => Err(Trouble::Refused(8, at)),
-            Purpose::Resume => {
-                self.end_tree(alloc, instance)?;
-                Ok(Some(Part::Open))
-            }
-        }
-    }
-
     /// Closes a leaf whose lines are read.
     fn close(
         &mut self,
@@ -201,38 +173,8 @@ impl Progress {
         Ok(None)
     }
 
-    /// Closes a leaf of a restart body.
-    fn close_body(
-        &mut self,
-        alloc: Global,
-        instance: &Instance,
-        from: u64,
-    ) -> Result<Option<Part>, Trouble>
-        requires of { IsOf instance.now.n self.old }
-        requires duals { AreDuals (length self.old.cuts.items) self.old.path.conditions 0 0 (duals self.old) }
-        ensures goes { Goes instance.now.n result self.new (spec.duals_on (resumer instance.now) (head self.old) (later self.old.path.conditions) (open_duals self.old from) 0 0 0) }
-        ensures same { self.new.purpose ≡ self.old.purpose }
-        ensures says { IfOk result (λ o. parts_in o ≡ parts.leaf_says instance.now.n (head self.old) (duals self.old) 0 0 0) }
-    {
-        let Some(closing) = closing_if_enough(
-            alloc,
-            instance,
-            self.bound,
-            &self.cuts,
-            self.path.path(),
-            &self.cities,
-            &self.cut_duals,
-            &self.condition_duals,
-        )?
-        else {
-            return Err(Trouble::Refused(7, from));
-        };
-        self.end_tree(alloc, instance)?;
-        Ok(Some(Part::Closed(closing)))
-    }
-
     /// Goes to the next tree, if there is one.
-    fn end_tree(&mut self, alloc: Global, instance: &Instance) -> Result<(), Trouble>
+    pub(crate) fn end_tree(&mut self, alloc: Global, instance: &Instance) -> Result<(), Trouble>
         requires { IsOf instance.now.n self.old }
         ensures goes { Goes instance.now.n result self.new (spec.go (spec.wants_trees (head self.old) (later self.old.path.conditions))) }
         ensures same { self.new.purpose ≡ self.old.purpose }

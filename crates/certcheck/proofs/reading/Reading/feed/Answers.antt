@@ -30,6 +30,9 @@ loop-end-preserved c =
     let rest = c.loop-end.rest.now in
     let left = take (length tail - 1) (drop 1 tail) in
     let line = run ++ 10 ∷ [] in
-    let parts = at_first_line rest run tail c.in-Some.end c.split_at.ensures.front c.split_at.ensures.back c.in-Some.ensures.0.high (is_line_end (slice_index rest c.in-Some.end) c.in-Some.ensures.1) in
-    (ap (λ w. bytes_on (tests_by w i) (reads (reading_of c.line.new.self)) left) c.in_ok-line.ensures.same
-    ∙ (sym (in_turn j old line left rest (reads (reading_of c.line.new.self)) parts c.in_ok-line.ensures.reads.0) ∙ c.loop-end.invariant.0), c.in_ok-line.ensures.reads.1, c.in_ok-line.ensures.same ∙ c.loop-end.invariant.2)
+    let parts = at_first_line rest run tail c.in-Some.end c.split_at.ensures.front c.split_at.ensures.back c.in-Some.ensures.0.high (is_line_end (slice_index rest c.in-Some.end) c.in-Some.ensures.1) in (
+      ap (λ w. bytes_on (tests_by w i) (reads (reading_of c.line.new.self)) left) c.in_ok-line.ensures.same
+          ∙ (sym (in_turn j old line left rest (reads (reading_of c.line.new.self)) parts c.in_ok-line.ensures.reads.0) ∙ c.loop-end.invariant.0),
+      c.in_ok-line.ensures.reads.1,
+      c.in_ok-line.ensures.same ∙ c.loop-end.invariant.2,
+    )

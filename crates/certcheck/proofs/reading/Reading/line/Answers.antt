@@ -1,10 +1,10 @@
-use Rattle.std.proofs.Common.{◌≡◌, sym, ◌∙◌, refl, ap, [], ◌∷◌, ◌++◌, ◌+◌, length, arith}
+use Rattle.std.proofs.Common.{◌≡◌, sym, ◌∙◌, refl, ap, subst, [], ◌∷◌, ◌++◌, ◌+◌, length, arith}
 use Rattle.certdef.specs.Items.{item_of}
 use Rattle.certcheck.specs.Purposes.{tests_by}
 use Rattle.certdef.specs.Verdicts.{line_step}
 use Rattle.certdef.specs.Bytes.{reads, bytes_on, byte_on, line_on}
 use Rattle.certcheck.specs.Stages.{stage_of}
-use Rattle.certcheck.specs.Readings.{reading_of}
+use Rattle.certcheck.specs.Readings.{reading_of, Reads}
 use Rattle.certcheck.proofs.ReadingLemmas.{refused_on, line_refused, in_turn, line_whole, same_place, done, empty_list}
 use Rattle.std.proofs.lemmas.Bool.Decides.{nat_tests}
 use Rattle.certcheck.proofs.reading.Reading.line.Goals as goal
@@ -24,7 +24,7 @@ returns-then-not-is_empty-clause-reads c =
     let j = tests_by c.args.self.now.progress.purpose i in
     let old = reads (reading_of c.args.self.now) in
     let bytes = c.args.run.now in
-    rw (in_turn j old bytes (10 ∷ []) (bytes ++ 10 ∷ []) (reads (reading_of c.run.new.self)) refl c.in_ok-run.ensures.reads.0, done j (byte_on j (reading_of c.run.new.self) 10)) c.byte.ensures.reads
+    rw (in_turn j old bytes (10 ∷ []) (bytes ++ 10 ∷ []) (reads (reading_of c.run.new.self)) refl c.in_ok-run.ensures.reads.0, done j (byte_on j (reading_of c.run.new.self) 10)) (subst (λ u. Reads i.n c.byte.result c.byte.new.self (byte_on (tests_by u i) (reading_of c.run.new.self) 10)) c.run.ensures.same c.byte.ensures.reads)
 
 pub returns-in_err-line-clause-reads : goal.returns-in_err-line-clause-reads
 returns-in_err-line-clause-reads c =
