@@ -6,3 +6,4 @@ pub mod Readings
 pub mod Checkers
 pub mod Parts
 pub mod Purposes
+pub mod Keeping
