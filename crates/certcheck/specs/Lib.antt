@@ -4,3 +4,6 @@ pub mod Answers
 pub mod Stages
 pub mod Readings
 pub mod Checkers
+pub mod Parts
+pub mod Purposes
+pub mod Keeping

@@ -5,14 +5,17 @@
 #![tactic(auto)]
 
 mod answer;
+mod bodies;
 mod checker;
 mod checking;
 mod count;
 mod following;
 mod marked;
 mod odd_cuts;
+mod part;
 mod path;
 mod progress;
+mod purpose;
 mod reading;
 mod sizes;
 mod trees;
@@ -20,6 +23,7 @@ mod trees;
 pub use answer::{Answer, CheckError, Trouble};
 pub use checker::Checker;
 pub use checking::check;
+pub use part::Part;
 pub use sizes::Sizes;
 
 #[cfg(test)]

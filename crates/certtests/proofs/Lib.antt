@@ -3,3 +3,4 @@ pub mod TourLemmas
 pub mod DualLemmas
 pub mod PathLemmas
 pub mod StepLemmas
+pub mod MergeLemmas
