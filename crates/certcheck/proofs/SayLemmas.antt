@@ -1,12 +1,18 @@
 -- What the bytes of a restart body say, as they are read.
-use Rattle.std.proofs.Common.{◌≡◌, ◌≢◌, ℕ, suc, ◌+◌, ◌<◌, ◌≤◌, true, false, cond, List, [], ◌∷◌, ◌++◌, length, refl, sym, ap, subst, ◌∙◌, append_assoc, length-append, arith}
+use Rattle.std.proofs.Common.{◌≡◌, ◌≢◌, ℕ, suc, ◌+◌, ◌<◌, ◌≤◌, true, false, cond, List, [], ◌∷◌, ◌++◌, length, refl, sym, ap, subst, ◌∙◌, append_assoc, length-append, arith, Result, Ok, Err, OnOk}
 use Rattle.std.specs.Prelude.{nat_le, nat_lt, ◌==◌, slice_index}
 use Rattle.std.proofs.lemmas.Bool.Decides.{nat_tests}
 use Rattle.certdef.specs.Items.{item_of}
 use Rattle.certdef.specs.Tests.{Tests}
 use Rattle.certdef.specs.Bytes.{Reading, Read, reads, stops, byte_on, bytes_on}
 use Rattle.verdict.specs.Parts.{Part, line_says, byte_says, bytes_say}
-use Rattle.certcheck.specs.Readings.{HasNoLineEnd, HasRoom}
+use Rattle.certcheck.specs.Readings.{reading_of, HasNoLineEnd, HasRoom, SaysMore}
+use Rattle.tspdef.specs.Instances.{Instance}
+use Rattle.certcheck.specs.Keeping.{Keeps}
+use Rattle.certcheck.specs.Purposes.{tests_by}
+use Rattle.certcheck.specs.declared.part.Parts.{Parts}
+use Rattle.certcheck.specs.declared.purpose.Purpose.TheVariants as purposes
+use Rattle.certcheck.specs.declared.reading.Reading as readings
 use Rattle.certcheck.proofs.ReadingLemmas.{run_on}
 
 append_nil : {X : Type 0} (xs : List X) → xs ++ [] ≡ xs
@@ -65,3 +71,58 @@ further j r q xs ys zs mid all e f h =
 -- nothing is left
 pub all_said : (j : Tests) (q : Reading) (mid all : List Part) → mid ++ bytes_say j (reads q) [] ≡ all → mid ≡ all
 all_said j q mid all h = sym (append_nil mid) ∙ h
+
+-- ---- what is kept of a body
+
+-- a piece that ends no line
+pub kept_quietly : (j : Tests) (r : Reading) (bs : List ℕ) (p : Parts) (said : List Part) → HasNoLineEnd bs → Keeps p said → Keeps p (said ++ bytes_say j (reads r) bs)
+kept_quietly j r bs p said h k = subst (Keeps p) (sym (ap (λ x. said ++ x) (run_said j r bs h) ∙ append_nil said)) k
+
+-- a byte that ends no line
+pub kept_at_byte : (n : ℕ) (r : Reading) (b : ℕ) (p : Parts) (said : List Part) → b ≢ 10 → Keeps p said → Keeps p (said ++ byte_says n r b)
+kept_at_byte n r b p said e k = subst (Keeps p) (sym (ap (λ x. said ++ x) (quiet_byte n r b e) ∙ append_nil said)) k
+
+-- Where a body that was read from `old` on stands, with the rest left of the whole: what is kept and what the rest says are what was kept
+-- at first and what the whole says.
+abbrev pub Saying : Tests → readings.Reading → List ℕ → readings.Reading → List ℕ → Type 0
+Saying j old whole now rest = old.progress.purpose ≡ purposes.Resume → (said : List Part) → Keeps old.parts said
+    → (mid : List Part) × (Keeps now.parts mid × (mid ++ bytes_say j (reads (reading_of now)) rest ≡ said ++ bytes_say j (reads (reading_of old)) whole))
+
+-- at first
+pub said_at_first : (j : Tests) (r : readings.Reading) (bs : List ℕ) → Saying j r bs r bs
+said_at_first j r bs = λ h said k. (said, (k, refl))
+
+-- a piece later
+pub said_on : (i : Instance) (old now next : readings.Reading) (whole rest piece left : List ℕ) → rest ≡ piece ++ left
+    → now.progress.purpose ≡ old.progress.purpose
+    → bytes_on (tests_by now.progress.purpose i) (reads (reading_of now)) piece ≡ reads (reading_of next)
+    → SaysMore now next (bytes_say (tests_by now.progress.purpose i) (reads (reading_of now)) piece)
+    → Saying (tests_by old.progress.purpose i) old whole now rest → Saying (tests_by old.progress.purpose i) old whole next left
+said_on i old now next whole rest piece left e s f m h = λ u said k.
+    let j = tests_by old.progress.purpose i in
+    let g : bytes_on j (reads (reading_of now)) piece ≡ reads (reading_of next) = subst (λ w. bytes_on (tests_by w i) (reads (reading_of now)) piece ≡ reads (reading_of next)) s f in
+    let more : SaysMore now next (bytes_say j (reads (reading_of now)) piece) = subst (λ w. SaysMore now next (bytes_say (tests_by w i) (reads (reading_of now)) piece)) s m in
+    let before = h u said k in
+    let mid = before.0 in
+    (mid ++ bytes_say j (reads (reading_of now)) piece, (more (s ∙ u) mid before.1.0, further j (reading_of now) (reading_of next) piece left rest mid (said ++ bytes_say j (reads (reading_of old)) whole) e g before.1.1))
+
+-- nothing is left
+pub said_whole : (j : Tests) (old now : readings.Reading) (whole : List ℕ) → Saying j old whole now [] → SaysMore old now (bytes_say j (reads (reading_of old)) whole)
+said_whole j old now whole h = λ u said k.
+    let before = h u said k in
+    subst (Keeps now.parts) (all_said j (reading_of now) before.0 (said ++ bytes_say j (reads (reading_of old)) whole) before.1.1) before.1.0
+
+-- with the last piece
+pub said_last : (i : Instance) (old now next : readings.Reading) (whole rest : List ℕ)
+    → now.progress.purpose ≡ old.progress.purpose
+    → SaysMore now next (bytes_say (tests_by now.progress.purpose i) (reads (reading_of now)) rest)
+    → Saying (tests_by old.progress.purpose i) old whole now rest → SaysMore old next (bytes_say (tests_by old.progress.purpose i) (reads (reading_of old)) whole)
+said_last i old now next whole rest s m h = λ u said k.
+    let j = tests_by old.progress.purpose i in
+    let more : SaysMore now next (bytes_say j (reads (reading_of now)) rest) = subst (λ w. SaysMore now next (bytes_say (tests_by w i) (reads (reading_of now)) rest)) s m in
+    let before = h u said k in
+    subst (Keeps next.parts) before.1.1 (more (s ∙ u) before.0 before.1.0)
+
+pub on_ok_then : {X E : Type 0} (r : Result X E) (P Q : Type 0) → OnOk r P → (P → Q) → OnOk r Q
+on_ok_then (Ok v) P Q p f = f p
+on_ok_then (Err e) P Q p f = tt

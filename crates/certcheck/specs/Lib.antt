@@ -7,3 +7,4 @@ pub mod Checkers
 pub mod Parts
 pub mod Purposes
 pub mod Keeping
+pub mod Restarts

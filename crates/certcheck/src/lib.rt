@@ -17,6 +17,7 @@ mod path;
 mod progress;
 mod purpose;
 mod reading;
+mod resuming;
 mod sizes;
 mod trees;
 
@@ -24,6 +25,7 @@ pub use answer::{Answer, CheckError, Trouble};
 pub use checker::Checker;
 pub use checking::check;
 pub use part::Part;
+pub use resuming::{Body, read_body};
 pub use sizes::Sizes;
 
 #[cfg(test)]

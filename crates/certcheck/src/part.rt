@@ -5,6 +5,7 @@ ghost use Rattle.certcheck.specs.Parts.{part_of};
 ghost use Rattle.certcheck.specs.Keeping.{Keeps};
 ghost use Rattle.certcheck.specs.Purposes.{parts_in};
 
+use crate::purpose::Purpose;
 use cyc::{CitySet, Tour};
 use pricer::Closing;
 use std::alloc::{AllocError, Global};
@@ -45,8 +46,18 @@ impl Parts {
         }
     }
 
-    /// Keeps the part that a line says, if any.
-    pub(crate) fn put(&mut self, part: Option<Part>) -> Result<(), AllocError>
+    /// Keeps the part that a line says, if any, where the text is read as a restart body. Of a proof nothing is kept.
+    pub(crate) fn put(&mut self, purpose: Purpose, part: Option<Part>) -> Result<(), AllocError>
+        ensures { OnOk result (purpose ≡ Purpose.Resume → (said : List defs.Part) → Keeps self.old said → Keeps self.new (said ++ parts_in part)) }
+    {
+        match purpose {
+            Purpose::Verify => Ok(()),
+            Purpose::Resume => self.put_any(part),
+        }
+    }
+
+    /// Keeps a part, if there is one.
+    fn put_any(&mut self, part: Option<Part>) -> Result<(), AllocError>
         ensures { OnOk result ((said : List defs.Part) → Keeps self.old said → Keeps self.new (said ++ parts_in part)) }
     {
         match part {

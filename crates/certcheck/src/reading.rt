@@ -33,7 +33,7 @@ pub(crate) struct Reading {
     count: Count,
     progress: Progress,
     begun: Vec<u8>,
-    parts: Parts,
+    pub(crate) parts: Parts,
 }
 
 impl Reading {
@@ -63,7 +63,7 @@ impl Reading {
         let part = self
             .progress
             .line(alloc, instance, self.count.at(), &self.begun)?;
-        self.parts.put(part)?;
+        self.parts.put(self.progress.purpose, part)?;
         self.count = self.count.with_line_end();
         self.begun.clear();
         Ok(())
@@ -140,7 +140,7 @@ impl Reading {
             return self.byte(alloc, instance, b'\n');
         }
         let part = self.progress.line(alloc, instance, self.count.at(), run)?;
-        self.parts.put(part)?;
+        self.parts.put(self.progress.purpose, part)?;
         self.count = self.count.with_bytes(run.len()).with_line_end();
         Ok(())
     }
@@ -207,6 +207,7 @@ impl Reading {
             _ => Answer::No(1, self.count.at()),
         }
     }
+
     /// How much is held.
     pub(crate) fn sizes(&self) -> Sizes
         requires { (n : ℕ) × Stands n self.now.progress }

@@ -8,7 +8,7 @@ use Rattle.tspdef.specs.Trees.{Tree, open_leaf, closed_leaf, edge_split, clique_
 use Rattle.treebook.specs.Tables.{Node, path_at, sides_of, tree_of, IsTable, IsOpen}
 use Rattle.treebook.specs.Tree.{Table}
 use Rattle.verdict.specs.Bodies.{reopened}
-use Rattle.verdict.specs.Parts.{Part, preorder}
+use Rattle.verdict.specs.Parts.{Part, the_tour, opened, closed, edge, clique, preorder}
 
 -- each closing fits its node
 abbrev pub AllFit : ℕ → List Condition → Tree → Type 0
@@ -73,3 +73,12 @@ pub record IsGrown (i : Instance) (goal : Tree) (total : ℕ) (table : Table) : 
   pub fixed : table.fixed ≡ i.fixed
   pub tree : tree_of table.nodes ≡ goal
   pub count : length table.nodes ≡ total
+
+-- the first part is a tour
+abbrev pub BeginsWithTour : List Part → Type 0
+BeginsWithTour [] = ⊥
+BeginsWithTour (the_tour cities ∷ ps) = Unit {0}
+BeginsWithTour (opened ∷ ps) = ⊥
+BeginsWithTour (closed c ∷ ps) = ⊥
+BeginsWithTour (edge u v ∷ ps) = ⊥
+BeginsWithTour (clique set ∷ ps) = ⊥
