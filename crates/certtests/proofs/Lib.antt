@@ -4,3 +4,4 @@ pub mod DualLemmas
 pub mod PathLemmas
 pub mod StepLemmas
 pub mod MergeLemmas
+pub mod Rising

@@ -88,7 +88,7 @@ pub fn closes(
 }
 
 /// The closing that the duals of a leaf are, with equal cuts as one, if it closes the leaf for the bound that a text tells. Its cost is that of
-/// `closes`, and O(k^2) steps for k named cuts.
+/// `closes`, and for each of k named cuts a move of the k cuts at most.
 pub fn closing_if_enough(
     alloc: Global,
     instance: &Instance,
