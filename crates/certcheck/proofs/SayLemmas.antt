@@ -1,5 +1,5 @@
 -- What the bytes of a restart body say, as they are read.
-use Rattle.std.proofs.Common.{◌≡◌, ◌≢◌, ℕ, suc, ◌+◌, ◌<◌, ◌≤◌, true, false, cond, List, [], ◌∷◌, ◌++◌, length, refl, sym, ap, subst, ◌∙◌, append_assoc, length-append, arith, Result, Ok, Err, OnOk}
+use Rattle.std.proofs.Common.{◌≡◌, ◌≢◌, ℕ, suc, ◌+◌, ◌<◌, ◌≤◌, true, false, cond, List, [], ◌∷◌, ◌++◌, length, refl, sym, ap, subst, ◌∙◌, append_assoc, length-append, drop, arith, Result, Ok, Err, OnOk}
 use Rattle.std.specs.Prelude.{nat_le, nat_lt, ◌==◌, slice_index}
 use Rattle.std.proofs.lemmas.Bool.Decides.{nat_tests}
 use Rattle.certdef.specs.Items.{item_of}
@@ -13,7 +13,7 @@ use Rattle.certcheck.specs.Purposes.{tests_by}
 use Rattle.certcheck.specs.declared.part.Parts.{Parts}
 use Rattle.certcheck.specs.declared.purpose.Purpose.TheVariants as purposes
 use Rattle.certcheck.specs.declared.reading.Reading as readings
-use Rattle.certcheck.proofs.ReadingLemmas.{run_on}
+use Rattle.certcheck.proofs.ReadingLemmas.{run_on, done}
 
 append_nil : {X : Type 0} (xs : List X) → xs ++ [] ≡ xs
 append_nil [] = refl
@@ -122,6 +122,29 @@ said_last i old now next whole rest s m h = λ u said k.
     let more : SaysMore now next (bytes_say j (reads (reading_of now)) rest) = subst (λ w. SaysMore now next (bytes_say (tests_by w i) (reads (reading_of now)) rest)) s m in
     let before = h u said k in
     subst (Keeps next.parts) before.1.1 (more (s ∙ u) before.0 before.1.0)
+
+-- a byte later
+pub said_on_byte : (i : Instance) (old now next : readings.Reading) (whole : List ℕ) (k b : ℕ) → drop k whole ≡ b ∷ drop (k + 1) whole
+    → now.progress.purpose ≡ old.progress.purpose
+    → byte_on (tests_by now.progress.purpose i) (reading_of now) b ≡ reads (reading_of next)
+    → SaysMore now next (byte_says i.n (reading_of now) b)
+    → Saying (tests_by old.progress.purpose i) old whole now (drop k whole) → Saying (tests_by old.progress.purpose i) old whole next (drop (k + 1) whole)
+said_on_byte i old now next whole k b d s e m h =
+    let j = tests_by now.progress.purpose i in
+    said_on i old now next whole (drop k whole) (b ∷ []) (drop (k + 1) whole) d s (done j (byte_on j (reading_of now) b) ∙ e) (subst (SaysMore now next) (sym (one_said j (reading_of now) b)) m) h
+
+-- a piece, and the byte that ends the line
+pub then_line_end : (i : Instance) (old mid new : readings.Reading) (run : List ℕ) → mid.progress.purpose ≡ old.progress.purpose
+    → bytes_on (tests_by old.progress.purpose i) (reads (reading_of old)) run ≡ reads (reading_of mid)
+    → SaysMore old mid (bytes_say (tests_by old.progress.purpose i) (reads (reading_of old)) run) → SaysMore mid new (byte_says i.n (reading_of mid) 10)
+    → SaysMore old new (bytes_say (tests_by old.progress.purpose i) (reads (reading_of old)) (run ++ 10 ∷ []))
+then_line_end i old mid new run s e m b = λ u said k.
+    let j = tests_by old.progress.purpose i in
+    let front = bytes_say j (reads (reading_of old)) run in
+    let last = byte_says i.n (reading_of mid) 10 in
+    let joined : bytes_say j (reads (reading_of old)) (run ++ 10 ∷ []) ≡ front ++ last =
+        in_pieces j (reads (reading_of old)) run (10 ∷ []) ∙ (ap (λ x. front ++ bytes_say j x (10 ∷ [])) e ∙ ap (λ x. front ++ x) (one_said j (reading_of mid) 10)) in
+    subst (Keeps new.parts) (append_assoc said front last ∙ ap (λ x. said ++ x) (sym joined)) (b (s ∙ u) (said ++ front) (m u said k))
 
 pub on_ok_then : {X E : Type 0} (r : Result X E) (P Q : Type 0) → OnOk r P → (P → Q) → OnOk r Q
 on_ok_then (Ok v) P Q p f = f p

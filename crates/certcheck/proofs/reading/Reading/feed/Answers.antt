@@ -4,6 +4,7 @@ use Rattle.certcheck.specs.Purposes.{tests_by}
 use Rattle.certdef.specs.Bytes.{reads, bytes_on}
 use Rattle.certcheck.specs.Readings.{reading_of}
 use Rattle.certcheck.proofs.ReadingLemmas.{refused_on, in_turn, at_first_line, is_line_end}
+use Rattle.certcheck.proofs.SayLemmas.{said_on, said_last, on_ok_then}
 use Rattle.certcheck.proofs.reading.Reading.feed.Goals as goal
 
 pub returns-in_err-line-clause-reads : goal.returns-in_err-line-clause-reads
@@ -35,4 +36,10 @@ loop-end-preserved c =
           ∙ (sym (in_turn j old line left rest (reads (reading_of c.line.new.self)) parts c.in_ok-line.ensures.reads.0) ∙ c.loop-end.invariant.0),
       c.in_ok-line.ensures.reads.1,
       c.in_ok-line.ensures.same ∙ c.loop-end.invariant.2,
+      said_on i c.args.self.now c.loop-end.self c.line.new.self c.args.piece.now rest line left parts c.loop-end.invariant.2 c.in_ok-line.ensures.reads.0 c.in_ok-line.ensures.says c.loop-end.invariant.3,
     )
+
+pub returns-clause-says : goal.returns-clause-says
+returns-clause-says c =
+    on_ok_then c.run.result _ _ c.run.ensures.says
+    (λ m. said_last c.args.instance.now c.args.self.now c.loop-end.self c.run.new.self c.args.piece.now c.loop-end.rest.now c.loop-end.invariant.2 m c.loop-end.invariant.3)
