@@ -2,4 +2,4 @@ pub mod Places
 pub mod Kept
 pub mod Taking
 pub mod Fitting
-pub mod Reads
+pub mod Taken

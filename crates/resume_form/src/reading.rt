@@ -1,10 +1,10 @@
 //! A restart body as the tree and the tour that a search goes on from.
 ghost use Rattle.std.specs.Prelude.{◌≡◌, ℕ, ◌+◌, ◌*◌, ◌≤◌, not, ◌&&◌, nat_le, List, ◌∷◌, length, Err, IfOk};
 ghost use Rattle.treebook.specs.Tables.{tree_of};
-ghost use Rattle.verdict.specs.Parts as parts;
+ghost use Rattle.verdict.specs.Parts.{the_tour};
 ghost use Rattle.certcheck.specs.Parts.{parts_of};
-ghost use Rattle.resume_form.specs.Resumed.{IsResumed, IsRefused};
 ghost use Rattle.resume_form.specs.Growing.{BeginsWithTour};
+ghost use Rattle.resume_form.specs.Resumed.{IsResumed, IsRefused};
 
 use crate::error::{ReadError, told};
 use crate::growing::grow;
@@ -62,7 +62,7 @@ fn has_room(parts: &VecDeque<Part>, full: bool, budget: u32) -> bool
 /// Takes the tour, which is the first part.
 fn take_tour(parts: &mut VecDeque<Part>) -> Tour
     requires { BeginsWithTour (parts_of parts.old.items) }
-    ensures { parts_of parts.old.items ≡ parts.the_tour result ∷ parts_of parts.new.items }
+    ensures { parts_of parts.old.items ≡ the_tour result ∷ parts_of parts.new.items }
 {
     match parts.pop_front() {
         Some(Part::Tour(tour)) => tour,

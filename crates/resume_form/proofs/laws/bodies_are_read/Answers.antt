@@ -1,4 +1,4 @@
-use Rattle.resume_form.proofs.Reads.{bodies_are_read, one_tree}
+use Rattle.resume_form.proofs.Taken.{bodies_are_read, one_tree}
 use Rattle.resume_form.proofs.laws.bodies_are_read.Goals as goal
 
 pub returns-clause-read : goal.returns-clause-read

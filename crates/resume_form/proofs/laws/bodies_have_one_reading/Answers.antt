@@ -1,4 +1,4 @@
-use Rattle.resume_form.proofs.Reads.{one_reading}
+use Rattle.resume_form.proofs.Taken.{one_reading}
 use Rattle.resume_form.proofs.laws.bodies_have_one_reading.Goals as goal
 
 pub returns : goal.returns

@@ -1,6 +1,6 @@
 -- What is read out of a body, and the laws of it.
 use Rattle.std.proofs.Common.{◌≡◌, ℕ, ◌+◌, ◌-◌, ◌*◌, ◌^◌, ◌<◌, ◌≤◌, Bool, true, false, ◌&&◌, List, [], ◌∷◌, ◌++◌, length, map, refl, sym, ap, subst, ◌∙◌, arith, inl, inr}
-use Rattle.std.specs.Prelude.{not, nat_le, nat_lt, ◌⊎◌, Result, Ok, Err, Option, Some, None, tail}
+use Rattle.std.specs.Prelude.{not, nat_le, nat_lt, ◌⊎◌, Result, Ok, Err, Option, Some, None}
 use Rattle.std.specs.List.{AllByRecursion}
 use Rattle.std.proofs.lemmas.Bool.{and_parts, ltb-true}
 use Rattle.std.proofs.lemmas.Bool.Decides.{nat_tests}
@@ -8,8 +8,8 @@ use Rattle.tspdef.specs.Instances.{Instance, IsTourOf, length_in}
 use Rattle.tspdef.specs.Trees.{Tree, IsSoundFor}
 use Rattle.treebook.specs.Tables.{tree_of}
 use Rattle.treebook.specs.Tree.{Table}
-use Rattle.certdef.specs.Items.{Item, in_bounds, size_line, line, longest, fits}
-use Rattle.certdef.specs.Proofs.{Proof, head_items, text}
+use Rattle.certdef.specs.Items.{size_line, line, longest, fits}
+use Rattle.certdef.specs.Proofs.{Listed, Written, Proof, items}
 use Rattle.certdef.specs.Accepted.{from_zero, tree_in, most_bytes}
 use Rattle.certdef.specs.Verdicts.{Verdict, yes, no}
 use Rattle.verdict.specs.Bodies.{merged, reopened_for, resumed, body_verdict, IsBodyOf, IsBodyText, YesIsBodyText, ResumedIsSound}
@@ -59,17 +59,17 @@ pub whole : (i : Instance) (body : List ℕ) (l b budget : ℕ) (ps : List P.Par
 whole i body l b budget ps full exact says n e k f =
     let told : IsBodyText i body l b = (exact i body l b n).0 e in
     let all = all_kept ps full (body_says i body) budget k f in
-    let same : body_says i body ≡ parts_of i.n told.1.0 = says i body l b told.1.0 n told.0 told.1.1 in
-    record { value = told.1.0; few_bytes = told.0; said = told.1.1; parts = all.0 ∙ same; room = omega (arith, all.1, ap length same) }
+    let same : body_says i body ≡ parts_of i.n told.1 = says i body l b told.1 n told.0 told.2 in
+    record { value = told.1; few_bytes = told.0; said = told.2; parts = all.0 ∙ same; room = omega (arith, all.1, ap length same) }
 
 -- too many
 pub too_many : (i : Instance) (body : List ℕ) (l b budget gap k at : ℕ) (ps : List P.Part) (full : Bool) → YesIsBodyText → BodiesSayTheirParts → i.n < 2 ^ 32 → body_verdict i body ≡ yes l b
     → Kept ps full (body_says i body) → (not full && nat_le (length ps + 2 * budget) 1048577) ≡ false → k ≡ 5 → at ≡ 0 → IsRefused i budget gap body k at
-too_many i body l b budget gap k at ps full exact says n e s f refusal line =
+too_many i body l b budget gap k at ps full exact says n e s f refusal place =
     let told : IsBodyText i body l b = (exact i body l b n).0 e in
     let many = too_many_kept ps full (body_says i body) budget s f in
-    let same : body_says i body ≡ parts_of i.n told.1.0 = says i body l b told.1.0 n told.0 told.1.1 in
-    inr (record { refusal = refusal; line = line; long = l; bound = b; value = told.1.0; few_bytes = told.0; said = told.1.1; many = omega (arith, many, ap length same) })
+    let same : body_says i body ≡ parts_of i.n told.1 = says i body l b told.1 n told.0 told.2 in
+    inr (record { refusal = refusal; line = place; long = l; bound = b; value = told.1; few_bytes = told.0; said = told.2; many = omega (arith, many, ap length same) })
 
 -- ---- the tour and the nodes
 
@@ -78,7 +78,7 @@ whole_begins i body l b budget ps w = subst BeginsWithTour (sym w.parts) tt
 
 -- once the tour is taken
 pub record IsTaken (i : Instance) (value : Proof) (budget : ℕ) (tour : List ℕ) (ps : List P.Part) : Type 0 where
-  pub tour : tour ≡ from_zero value.tour
+  pub same : tour ≡ from_zero value.tour
   pub nodes : kept.parts_of ps ≡ preorder (merged (tree_in i.n value))
   pub many : length ps ≡ nodes_in i.n value
 
@@ -87,7 +87,7 @@ pub taken : (i : Instance) (body : List ℕ) (l b budget : ℕ) (ps qs : List P.
 taken i body l b budget ps qs tour w e =
     let same : the_tour tour ∷ kept.parts_of qs ≡ parts_of i.n w.value = sym e ∙ w.parts in
     let nodes : kept.parts_of qs ≡ preorder (merged (tree_in i.n w.value)) = cc in
-    record { tour = cc; nodes = nodes; many = omega (arith, ap length nodes, length_parts kept.part_of qs) }
+    record { same = cc; nodes = nodes; many = omega (arith, ap length nodes, length_parts kept.part_of qs) }
 
 pub taken_said : (i : Instance) (body : List ℕ) (l b budget : ℕ) (ps qs : List P.Part) (tour : List ℕ) (w : IsWhole i body l b budget ps) → IsTaken i w.value budget tour qs
     → IsSaid i b (kept.parts_of qs) (merged (tree_in i.n w.value))
@@ -118,7 +118,7 @@ pub was_read : (i : Instance) (budget gap level : ℕ) (body : List ℕ) (l b : 
 was_read i budget gap level body l b ps qs tour table sound w t e g =
     let read = resumed_of i budget gap body l b w.value sound w.few_bytes w.said w.room in
     let tree : tree_of table.nodes ≡ resumed i (l - gap) w.value = g.tree ∙ ap (λ m. reopened_for i m (merged (tree_in i.n w.value))) e in
-    subst (λ (r : Tree). IsResumed i budget gap body r tour) (sym tree) (subst (IsResumed i budget gap body (resumed i (l - gap) w.value)) (sym t.tour) read)
+    subst (λ (r : Tree). IsResumed i budget gap body r tour) (sym tree) (subst (IsResumed i budget gap body (resumed i (l - gap) w.value)) (sym t.same) read)
 
 pub few_read : (i : Instance) (budget : ℕ) (body : List ℕ) (l b : ℕ) (ps qs : List P.Part) (tour : List ℕ) (goal : Tree) (table : Table) (w : IsWhole i body l b budget ps) → IsTaken i w.value budget tour qs
     → IsGrown i goal (length qs) table → length table.nodes + 2 * budget ≤ 1048576
@@ -128,26 +128,27 @@ few_read i budget body l b ps qs tour goal table w t g = omega (arith, g.count, 
 
 pub refusal_told : (i : Instance) (budget gap : ℕ) (body : List ℕ) (t : Trouble) (e : ReadError) (k at : ℕ) → IsRefusalOfBody i t body → IsToldOf t e → e ≡ errors.Refused k at → IsRefused i budget gap body k at
 refusal_told i budget gap body troubles.NoMemory e k at h told is = absurd cc
-refusal_told i budget gap body (troubles.Refused j line) e k at h told is =
+refusal_told i budget gap body (troubles.Refused j from) e k at h told is =
     let number : k ≡ told_as j = cc in
-    let place : line ≡ at = cc in
+    let place : from ≡ at = cc in
     inl (record { refusal = j; verdict = h ∙ ap (no j) place; told = number })
 
 -- ---- the laws
 
-few_for : (n cities long : ℕ) (o : Option ℕ) (rest : List Item) → AllByRecursion (λ x. fits n x ≡ true) (head_items cities long o ++ rest) → cities < 2 ^ 32
-few_for n cities long None rest h = ltb-true cities (2 ^ 32) (and_parts (nat_lt cities (2 ^ 32)) (nat_le (length (line (size_line cities))) longest) h.1.0).0
-few_for n cities long (Some b) rest h = ltb-true cities (2 ^ 32) (and_parts (nat_lt cities (2 ^ 32)) (nat_le (length (line (size_line cities))) longest) h.1.0).0
+few_for : (n cities long : ℕ) (o : Option ℕ) (tour : List ℕ) (cuts : List Listed) (tree : Written)
+    → AllByRecursion (λ x. fits n x ≡ true) (items (record { cities = cities; long = long; bound = o; tour = tour; cuts = cuts; tree = tree })) → cities < 2 ^ 32
+few_for n cities long None tour cuts tree h = ltb-true cities (2 ^ 32) (and_parts (nat_lt cities (2 ^ 32)) (nat_le (length (line (size_line cities))) longest) h.1.0).0
+few_for n cities long (Some b) tour cuts tree h = ltb-true cities (2 ^ 32) (and_parts (nat_lt cities (2 ^ 32)) (nat_le (length (line (size_line cities))) longest) h.1.0).0
 
 few_cities : (i : Instance) (body : List ℕ) (l b : ℕ) (p : Proof) → IsBodyOf i body l b p → i.n < 2 ^ 32
-few_cities i body l b p s = subst (λ k. k < 2 ^ 32) s.body.about.size (few_for i.n p.cities p.long p.bound _ s.form.readable.lines)
+few_cities i body l b p s = subst (λ k. k < 2 ^ 32) s.body.about.size (few_for i.n p.cities p.long p.bound p.tour p.cuts p.tree s.form.readable.lines)
 
 pub one_reading : YesIsBodyText → BodiesSayTheirParts → OneReading
-one_reading exact says i budget gap body tree tour refusal line r (inl q) =
+one_reading exact says i budget gap body tree tour refusal at r (inl q) =
     let n = few_cities i body r.long r.bound r.value r.said in
-    let a = (exact i body r.long r.bound n).1 (r.few_bytes, (r.value, r.said)) in
+    let a = (exact i body r.long r.bound n).1 (r.few_bytes, r.value, r.said) in
     let e = sym a ∙ q.verdict in cc
-one_reading exact says i budget gap body tree tour refusal line r (inr q) =
+one_reading exact says i budget gap body tree tour refusal at r (inr q) =
     let n = few_cities i body r.long r.bound r.value r.said in
     let a = says i body r.long r.bound r.value n r.few_bytes r.said in
     let b = says i body q.long q.bound q.value n q.few_bytes q.said in
