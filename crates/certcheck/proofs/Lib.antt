@@ -7,3 +7,5 @@ pub mod CheckLemmas
 pub mod CheckerLemmas
 pub mod TakenLemmas
 pub mod SizeLemmas
+pub mod SayLemmas
+pub mod PartLemmas

@@ -10,6 +10,8 @@ use Rattle.certdef.specs.Verdicts.{Stage, Outcome, line_step}
 use Rattle.certdef.specs.Bytes.{Reading, Read, reads, stops, byte_on, bytes_on, line_on}
 use Rattle.verdict.proofs.Bytes.{reads_in_pieces}
 use Rattle.certcheck.specs.Readings.{HasNoLineEnd, HasRoom, Reads}
+use Rattle.std.specs.Prelude.{Option}
+use Rattle.certcheck.specs.declared.part.Part.{Part}
 use Rattle.certcheck.specs.Stages.{Goes}
 use Rattle.certcheck.specs.declared.progress.Progress.{Progress}
 use Rattle.certcheck.specs.declared.reading.Reading as readings
@@ -67,12 +69,12 @@ pub refused_on : (n : ℕ) (t : Trouble) (r : Result (Unit {0}) Trouble) (c d : 
 refused_on n t (Ok x) c d j q p ys is h e = absurd is
 refused_on n t (Err x) c d j q p ys is h e = subst (λ y. Reads n (Err y) d p) (sym is) (stays n t c d j q p ys h e)
 
-stops-line : (n : ℕ) (t : Trouble) (s : Progress) (o : Outcome) (d : readings.Reading) (at read : ℕ) (p : Read) → Goes n (Err t) s o → p ≡ line_on at read o → Reads n (Err t) d p
+stops-line : (n : ℕ) (t : Trouble) (s : Progress) (o : Outcome) (d : readings.Reading) (at read : ℕ) (p : Read) → Goes {X = Option Part} n (Err t) s o → p ≡ line_on at read o → Reads n (Err t) d p
 stops-line n troubles.NoMemory s o d at read p h e = tt
 stops-line n (troubles.Refused k from) s o d at read p h e = e ∙ ap (line_on at read) h
 
 -- a text whose line is refused
-pub line_refused : (n : ℕ) (t : Trouble) (r : Result (Unit {0}) Trouble) (s : Progress) (o : Outcome) (d : readings.Reading) (at read : ℕ) (p : Read) → IsErrAnd r (λ e. e ≡ t) → Goes n (Err t) s o → p ≡ line_on at read o → Reads n r d p
+pub line_refused : (n : ℕ) (t : Trouble) (r : Result (Unit {0}) Trouble) (s : Progress) (o : Outcome) (d : readings.Reading) (at read : ℕ) (p : Read) → IsErrAnd r (λ e. e ≡ t) → Goes {X = Option Part} n (Err t) s o → p ≡ line_on at read o → Reads n r d p
 line_refused n t (Ok x) s o d at read p is h e = absurd is
 line_refused n t (Err x) s o d at read p is h e = subst (λ y. Reads n (Err y) d p) (sym is) (stops-line n t s o d at read p h e)
 

@@ -7,15 +7,17 @@ use Rattle.tspdef.specs.Instances.{Instance}
 use Rattle.tspdef.specs.Paths.{Condition, absent, present, two, four, root}
 use Rattle.certdef.specs.Items.{edge_line, clique_line, city_line}
 use Rattle.certdef.specs.Accepted.{from_zero}
-use Rattle.certdef.specs.Tests.{Tests, verifier}
+use Rattle.certdef.specs.Tests.{Tests}
+use Rattle.certcheck.specs.Purposes.{tests_by}
+use Rattle.certcheck.specs.declared.purpose.Purpose.{Purpose}
 use Rattle.certdef.specs.Verdicts.{Head, OpenDuals, go, refused, wants_trees, after, cuts_on, duals_on, with_city, on_tree, on_dual}
 use Rattle.certcheck.specs.Paths.{later}
 use Rattle.certcheck.proofs.PathLemmas.{later-push, later_root}
 
 -- behind the cuts comes a tree on the path of the root
-pub root_goes : (i : Instance) (h : Head) (left : ℕ) (path : List Condition) → left ≡ 0 → path ≡ root i → go (cuts_on (verifier i) h left) ≡ go (wants_trees h (path ∷ later path))
-root_goes i h left path e f =
-    ap (λ k. go (cuts_on (verifier i) h k)) e
+pub root_goes : (u : Purpose) (i : Instance) (h : Head) (left : ℕ) (path : List Condition) → left ≡ 0 → path ≡ root i → go (cuts_on (tests_by u i) h left) ≡ go (wants_trees h (path ∷ later path))
+root_goes u i h left path e f =
+    ap (λ k. go (cuts_on (tests_by u i) h k)) e
     ∙ (ap (λ ps. go (wants_trees h (root i ∷ ps))) (sym (later_root i.fixed))
     ∙ ap (λ p. go (wants_trees h (p ∷ later p))) (sym f))
 

@@ -4,3 +4,7 @@ pub mod Answers
 pub mod Stages
 pub mod Readings
 pub mod Checkers
+pub mod Parts
+pub mod Purposes
+pub mod Keeping
+pub mod Restarts

@@ -89,7 +89,7 @@ pub record Stands (n : ℕ) (p : Progress) : Type 0 where
   pub stage : StandsAt n p p.stage
 
 -- a step went on as the outcome says, unless memory ran out
-abbrev pub Goes : ℕ → Result (Unit {0}) Trouble → Progress → Outcome → Type 0
+abbrev pub Goes : {X : Type 0} → ℕ → Result X Trouble → Progress → Outcome → Type 0
 Goes n (Ok x) p o = (o ≡ go (stage_of p)) × Stands n p
 Goes n (Err troubles.NoMemory) p o = Unit {0}
 Goes n (Err (troubles.Refused k at)) p o = o ≡ refused k at

@@ -5,6 +5,7 @@ ghost use Rattle.certcheck.specs.Answers.{verdict_of};
 ghost use Rattle.certcheck.specs.Checkers.{HasRead, IsRefusalOf, sizes_of};
 
 use crate::answer::{Answer, Trouble};
+use crate::purpose::Purpose;
 use crate::reading::Reading;
 use crate::sizes::Sizes;
 use std::alloc::Global;
@@ -23,16 +24,17 @@ pub struct Checker<'a> {
 }
 
 impl<'a> Model for Checker<'a> {
-    ghost use Rattle.std.specs.Prelude.{◌≤◌, length};
+    ghost use Rattle.std.specs.Prelude.{◌≡◌, ◌≤◌, length};
     ghost use Rattle.certcheck.specs.Checkers.{Checking};
     ghost use Rattle.certcheck.specs.Readings.{reading_of};
     ghost use Rattle.certcheck.specs.Stages.{Stands};
+    ghost use Rattle.certcheck.specs.declared.purpose.Purpose.TheVariants as purposes;
 
     ghost Value = { Checking };
 
     ghost view = { λ c. record { instance = c.instance.now; reading = reading_of c.reading } };
 
-    ghost invariant = { λ c. Stands c.instance.now.n c.reading.progress × (length c.reading.begun.items ≤ 16384) };
+    ghost invariant = { λ c. Stands c.instance.now.n c.reading.progress × (length c.reading.begun.items ≤ 16384) × (c.reading.progress.purpose ≡ purposes.Verify) };
 }
 
 impl<'a> Checker<'a> {
@@ -43,7 +45,7 @@ impl<'a> Checker<'a> {
     {
         Checker {
             instance,
-            reading: Reading::new(alloc, instance.n()),
+            reading: Reading::new(alloc, instance.n(), Purpose::Verify),
         }
     }
 

@@ -5,21 +5,27 @@
 #![tactic(auto)]
 
 mod answer;
+mod bodies;
 mod checker;
 mod checking;
 mod count;
 mod following;
 mod marked;
 mod odd_cuts;
+mod part;
 mod path;
 mod progress;
+mod purpose;
 mod reading;
+mod resuming;
 mod sizes;
 mod trees;
 
 pub use answer::{Answer, CheckError, Trouble};
 pub use checker::Checker;
 pub use checking::check;
+pub use part::Part;
+pub use resuming::{Body, read_body};
 pub use sizes::Sizes;
 
 #[cfg(test)]

@@ -1,13 +1,14 @@
 //! The lines of an odd cut.
-ghost use Rattle.std.specs.Prelude.{◌≡◌, true};
+ghost use Rattle.std.specs.Prelude.{◌≡◌, IfOk, true};
 ghost use Rattle.certdef.specs.Items.{fits};
-ghost use Rattle.certdef.specs.Tests.{verifier};
 ghost use Rattle.certdef.specs.Verdicts as spec;
 ghost use Rattle.certline.specs.Said.{said};
+ghost use Rattle.certcheck.specs.Purposes.{tests_by};
 ghost use Rattle.certcheck.specs.Stages.{head, handle_of, pairs_from, IsHandle, IsOf, Goes};
 
 use crate::answer::Trouble;
 use crate::following::may_follow_pair;
+use crate::part::Part;
 use crate::progress::{Progress, Stage};
 use certline::Item;
 use certtests::{city_set, odd};
@@ -25,10 +26,12 @@ impl Progress {
         pairs: u32,
         at: u64,
         item: Item,
-    ) -> Result<(), Trouble>
+    ) -> Result<Option<Part>, Trouble>
         requires of { IsOf instance.now.n self.old }
         requires fits { fits instance.now.n (said item) ≡ true }
-        ensures { Goes instance.now.n result self.new (spec.on_odd_handle (verifier instance.now) (head self.old) left from pairs at (said item)) }
+        ensures goes { Goes instance.now.n result self.new (spec.on_odd_handle (tests_by self.old.purpose instance.now) (head self.old) left from pairs at (said item)) }
+        ensures same { self.new.purpose ≡ self.old.purpose }
+        ensures says { IfOk result (λ o. o ≡ None) }
     {
         let Item::Handle(set) = item else {
             return Err(Trouble::Refused(1, at));
@@ -48,11 +51,13 @@ impl Progress {
         more: u32,
         at: u64,
         item: Item,
-    ) -> Result<(), Trouble>
+    ) -> Result<Option<Part>, Trouble>
         requires of { IsOf instance.now.n self.old }
         requires handle { IsHandle instance.now.n self.old.handle }
         requires fits { fits instance.now.n (said item) ≡ true }
-        ensures { Goes instance.now.n result self.new (spec.on_pair (verifier instance.now) (head self.old) left from more (handle_of self.old.handle) (pairs_from self.old.pairs.items) at (said item)) }
+        ensures goes { Goes instance.now.n result self.new (spec.on_pair (tests_by self.old.purpose instance.now) (head self.old) left from more (handle_of self.old.handle) (pairs_from self.old.pairs.items) at (said item)) }
+        ensures same { self.new.purpose ≡ self.old.purpose }
+        ensures says { IfOk result (λ o. o ≡ None) }
     {
         let Item::Pair(u, v) = item else {
             return Err(Trouble::Refused(1, at));
@@ -73,14 +78,16 @@ impl Progress {
         from: u64,
         left: u32,
         more: u32,
-    ) -> Result<(), Trouble>
+    ) -> Result<Option<Part>, Trouble>
         requires of { IsOf instance.now.n self.old }
         requires handle { IsHandle instance.now.n self.old.handle }
-        ensures { Goes instance.now.n result self.new (spec.pairs_on (verifier instance.now) from (head self.old) left more (handle_of self.old.handle) (pairs_from self.old.pairs.items)) }
+        ensures goes { Goes instance.now.n result self.new (spec.pairs_on (tests_by self.old.purpose instance.now) from (head self.old) left more (handle_of self.old.handle) (pairs_from self.old.pairs.items)) }
+        ensures same { self.new.purpose ≡ self.old.purpose }
+        ensures says { IfOk result (λ o. o ≡ None) }
     {
         if more != 0 {
             self.stage = Stage::Pair(left, from, more - 1);
-            return Ok(());
+            return Ok(None);
         }
         let pairs = std::mem::replace(&mut self.pairs, Vec::new(alloc));
         match self.handle.take() {

@@ -1,16 +1,19 @@
 //! The lines before the tree.
-ghost use Rattle.std.specs.Prelude.{◌≡◌, true};
+ghost use Rattle.std.specs.Prelude.{◌≡◌, IfOk, true};
 ghost use Rattle.certdef.specs.Items.{fits};
-ghost use Rattle.certdef.specs.Tests.{verifier};
 ghost use Rattle.certdef.specs.Verdicts as spec;
 ghost use Rattle.certdef.specs.Verdicts.{wants_title};
 ghost use Rattle.certline.specs.Said.{said};
 ghost use Rattle.tspdef.specs.Cuts.{IsCut};
 ghost use Rattle.certtests.specs.Listed.{listed};
+ghost use Rattle.verdict.specs.Parts as parts;
+ghost use Rattle.certcheck.specs.Purposes.{tests_by, parts_in};
 ghost use Rattle.certcheck.specs.Stages.{head, handle_of, teeth_of, stage_of, IsHandle, IsOf, Stands, Goes};
 
 use crate::answer::Trouble;
 use crate::marked::MarkedPath;
+use crate::part::Part;
+use crate::purpose::Purpose;
 use certline::Item;
 use certtests::{canonical_tour, city_set, comb, has_length, subtour};
 use cutform::Cut;
@@ -49,6 +52,7 @@ pub(crate) enum Stage {
 /// How far a text has been read: what it said so far, as far as that is still needed.
 #[derive(Debug, Drop)]
 pub(crate) struct Progress {
+    pub(crate) purpose: Purpose,
     pub(crate) stage: Stage,
     pub(crate) long: u64,
     pub(crate) bound: u64,
@@ -64,11 +68,13 @@ pub(crate) struct Progress {
 
 impl Progress {
     /// Before the first line of a text for n cities.
-    pub(crate) fn new(alloc: Global, n: u32) -> Progress
+    pub(crate) fn new(alloc: Global, n: u32, purpose: Purpose) -> Progress
+        ensures purpose { result.purpose ≡ purpose }
         ensures stage { stage_of result ≡ wants_title }
         ensures stands { Stands n result }
     {
         Progress {
+            purpose,
             stage: Stage::Title,
             long: 0,
             bound: 0,
@@ -89,15 +95,17 @@ impl Progress {
         instance: &Instance,
         at: u64,
         item: Item,
-    ) -> Result<(), Trouble>
+    ) -> Result<Option<Part>, Trouble>
         requires { IsOf instance.now.n self.old }
-        ensures { Goes instance.now.n result self.new (spec.on_title at (said item)) }
+        ensures goes { Goes instance.now.n result self.new (spec.on_title at (said item)) }
+        ensures same { self.new.purpose ≡ self.old.purpose }
+        ensures says { IfOk result (λ o. o ≡ None) }
     {
         let Item::Cert(version) = item else {
             return Err(Trouble::Refused(1, at));
         };
         self.stage = Stage::Size(version);
-        Ok(())
+        Ok(None)
     }
 
     /// Takes a line where the number of cities is wanted.
@@ -107,9 +115,11 @@ impl Progress {
         version: u32,
         at: u64,
         item: Item,
-    ) -> Result<(), Trouble>
+    ) -> Result<Option<Part>, Trouble>
         requires { IsOf instance.now.n self.old }
-        ensures { Goes instance.now.n result self.new (spec.on_size (verifier instance.now) version at (said item)) }
+        ensures goes { Goes instance.now.n result self.new (spec.on_size (tests_by self.old.purpose instance.now) version at (said item)) }
+        ensures same { self.new.purpose ≡ self.old.purpose }
+        ensures says { IfOk result (λ o. o ≡ None) }
     {
         let Item::N(cities) = item else {
             return Err(Trouble::Refused(1, at));
@@ -118,7 +128,7 @@ impl Progress {
             return Err(Trouble::Refused(2, at));
         }
         self.stage = Stage::Length(version);
-        Ok(())
+        Ok(None)
     }
 
     /// Takes a line where the length is wanted. In a text of the first version it is the bound too.
@@ -128,9 +138,11 @@ impl Progress {
         version: u32,
         at: u64,
         item: Item,
-    ) -> Result<(), Trouble>
+    ) -> Result<Option<Part>, Trouble>
         requires { IsOf instance.now.n self.old }
-        ensures { Goes instance.now.n result self.new (spec.on_length version at (said item)) }
+        ensures goes { Goes instance.now.n result self.new (spec.on_length version at (said item)) }
+        ensures same { self.new.purpose ≡ self.old.purpose }
+        ensures says { IfOk result (λ o. o ≡ None) }
     {
         let Item::Length(long) = item else {
             return Err(Trouble::Refused(1, at));
@@ -142,7 +154,7 @@ impl Progress {
         } else {
             Stage::Bound
         };
-        Ok(())
+        Ok(None)
     }
 
     /// Takes a line where the bound is wanted.
@@ -151,9 +163,11 @@ impl Progress {
         instance: &Instance,
         at: u64,
         item: Item,
-    ) -> Result<(), Trouble>
+    ) -> Result<Option<Part>, Trouble>
         requires { IsOf instance.now.n self.old }
-        ensures { Goes instance.now.n result self.new (spec.on_bound (verifier instance.now) self.old.long at (said item)) }
+        ensures goes { Goes instance.now.n result self.new (spec.on_bound (tests_by self.old.purpose instance.now) self.old.long at (said item)) }
+        ensures same { self.new.purpose ≡ self.old.purpose }
+        ensures says { IfOk result (λ o. o ≡ None) }
     {
         let Item::Bound(bound) = item else {
             return Err(Trouble::Refused(1, at));
@@ -163,7 +177,7 @@ impl Progress {
         }
         self.bound = bound;
         self.stage = Stage::Tour;
-        Ok(())
+        Ok(None)
     }
 
     /// Takes a line where the tour is wanted.
@@ -173,9 +187,11 @@ impl Progress {
         instance: &Instance,
         at: u64,
         item: Item,
-    ) -> Result<(), Trouble>
+    ) -> Result<Option<Part>, Trouble>
         requires { IsOf instance.now.n self.old }
-        ensures { Goes instance.now.n result self.new (spec.on_tour (verifier instance.now) self.old.long self.old.bound at (said item)) }
+        ensures goes { Goes instance.now.n result self.new (spec.on_tour (tests_by self.old.purpose instance.now) self.old.long self.old.bound at (said item)) }
+        ensures same { self.new.purpose ≡ self.old.purpose }
+        ensures says { IfOk result (λ o. parts_in o ≡ parts.tour_says (said item)) }
     {
         let Item::Tour(cities) = item else {
             return Err(Trouble::Refused(1, at));
@@ -187,7 +203,7 @@ impl Progress {
             return Err(Trouble::Refused(4, at));
         }
         self.stage = Stage::Count;
-        Ok(())
+        Ok(Some(Part::Tour(tour)))
     }
 
     /// Takes a line where the number of cuts is wanted.
@@ -197,9 +213,11 @@ impl Progress {
         instance: &Instance,
         at: u64,
         item: Item,
-    ) -> Result<(), Trouble>
+    ) -> Result<Option<Part>, Trouble>
         requires { IsOf instance.now.n self.old }
-        ensures { Goes instance.now.n result self.new (spec.on_count (verifier instance.now) self.old.long self.old.bound at (said item)) }
+        ensures goes { Goes instance.now.n result self.new (spec.on_count (tests_by self.old.purpose instance.now) self.old.long self.old.bound at (said item)) }
+        ensures same { self.new.purpose ≡ self.old.purpose }
+        ensures says { IfOk result (λ o. o ≡ None) }
     {
         let Item::Cuts(many) = item else {
             return Err(Trouble::Refused(1, at));
@@ -209,17 +227,24 @@ impl Progress {
     }
 
     /// Goes on with the cuts that are left, or with the tree, whose root has the fixed pairs.
-    fn cuts_on(&mut self, alloc: Global, instance: &Instance, left: u32) -> Result<(), Trouble>
+    fn cuts_on(
+        &mut self,
+        alloc: Global,
+        instance: &Instance,
+        left: u32,
+    ) -> Result<Option<Part>, Trouble>
         requires { IsOf instance.now.n self.old }
-        ensures { Goes instance.now.n result self.new (spec.go (spec.cuts_on (verifier instance.now) (head self.old) left)) }
+        ensures goes { Goes instance.now.n result self.new (spec.go (spec.cuts_on (tests_by self.old.purpose instance.now) (head self.old) left)) }
+        ensures same { self.new.purpose ≡ self.old.purpose }
+        ensures says { IfOk result (λ o. o ≡ None) }
     {
-        if left == 0 {
-            self.path = MarkedPath::root(alloc, instance.n(), instance.fixed())?;
-            self.stage = Stage::Tree;
-        } else {
+        if left != 0 {
             self.stage = Stage::Cut(left - 1);
+            return Ok(None);
         }
-        Ok(())
+        self.path = MarkedPath::root(alloc, instance.n(), instance.fixed())?;
+        self.stage = Stage::Tree;
+        Ok(None)
     }
 
     /// Adds a cut.
@@ -229,10 +254,12 @@ impl Progress {
         instance: &Instance,
         left: u32,
         cut: Cut,
-    ) -> Result<(), Trouble>
+    ) -> Result<Option<Part>, Trouble>
         requires of { IsOf instance.now.n self.old }
         requires cut { IsCut instance.now.n cut }
-        ensures { Goes instance.now.n result self.new (spec.go (spec.cuts_on (verifier instance.now) (spec.with_cut (head self.old) (listed cut)) left)) }
+        ensures goes { Goes instance.now.n result self.new (spec.go (spec.cuts_on (tests_by self.old.purpose instance.now) (spec.with_cut (head self.old) (listed cut)) left)) }
+        ensures same { self.new.purpose ≡ self.old.purpose }
+        ensures says { IfOk result (λ o. o ≡ None) }
     {
         self.cuts.push(cut)?;
         self.cuts_on(alloc, instance, left)
@@ -246,10 +273,12 @@ impl Progress {
         left: u32,
         at: u64,
         item: Item,
-    ) -> Result<(), Trouble>
+    ) -> Result<Option<Part>, Trouble>
         requires of { IsOf instance.now.n self.old }
         requires fits { fits instance.now.n (said item) ≡ true }
-        ensures { Goes instance.now.n result self.new (spec.on_cut (verifier instance.now) (head self.old) left at (said item)) }
+        ensures goes { Goes instance.now.n result self.new (spec.on_cut (tests_by self.old.purpose instance.now) (head self.old) left at (said item)) }
+        ensures same { self.new.purpose ≡ self.old.purpose }
+        ensures says { IfOk result (λ o. o ≡ None) }
     {
         match item {
             Item::Subtour(set) => {
@@ -261,11 +290,11 @@ impl Progress {
             }
             Item::Comb(teeth) => {
                 self.stage = Stage::Handle(left, at, teeth);
-                Ok(())
+                Ok(None)
             }
             Item::Odd(pairs) => {
                 self.stage = Stage::OddHandle(left, at, pairs);
-                Ok(())
+                Ok(None)
             }
             _ => Err(Trouble::Refused(1, at)),
         }
@@ -281,10 +310,12 @@ impl Progress {
         teeth: u32,
         at: u64,
         item: Item,
-    ) -> Result<(), Trouble>
+    ) -> Result<Option<Part>, Trouble>
         requires of { IsOf instance.now.n self.old }
         requires fits { fits instance.now.n (said item) ≡ true }
-        ensures { Goes instance.now.n result self.new (spec.on_handle (verifier instance.now) (head self.old) left from teeth at (said item)) }
+        ensures goes { Goes instance.now.n result self.new (spec.on_handle (tests_by self.old.purpose instance.now) (head self.old) left from teeth at (said item)) }
+        ensures same { self.new.purpose ≡ self.old.purpose }
+        ensures says { IfOk result (λ o. o ≡ None) }
     {
         let Item::Handle(set) = item else {
             return Err(Trouble::Refused(1, at));
@@ -304,11 +335,13 @@ impl Progress {
         more: u32,
         at: u64,
         item: Item,
-    ) -> Result<(), Trouble>
+    ) -> Result<Option<Part>, Trouble>
         requires of { IsOf instance.now.n self.old }
         requires handle { IsHandle instance.now.n self.old.handle }
         requires fits { fits instance.now.n (said item) ≡ true }
-        ensures { Goes instance.now.n result self.new (spec.on_tooth (verifier instance.now) (head self.old) left from more (handle_of self.old.handle) (teeth_of self.old.teeth.items) at (said item)) }
+        ensures goes { Goes instance.now.n result self.new (spec.on_tooth (tests_by self.old.purpose instance.now) (head self.old) left from more (handle_of self.old.handle) (teeth_of self.old.teeth.items) at (said item)) }
+        ensures same { self.new.purpose ≡ self.old.purpose }
+        ensures says { IfOk result (λ o. o ≡ None) }
     {
         let Item::Tooth(set) = item else {
             return Err(Trouble::Refused(1, at));
@@ -325,14 +358,16 @@ impl Progress {
         from: u64,
         left: u32,
         more: u32,
-    ) -> Result<(), Trouble>
+    ) -> Result<Option<Part>, Trouble>
         requires of { IsOf instance.now.n self.old }
         requires handle { IsHandle instance.now.n self.old.handle }
-        ensures { Goes instance.now.n result self.new (spec.teeth_on (verifier instance.now) from (head self.old) left more (handle_of self.old.handle) (teeth_of self.old.teeth.items)) }
+        ensures goes { Goes instance.now.n result self.new (spec.teeth_on (tests_by self.old.purpose instance.now) from (head self.old) left more (handle_of self.old.handle) (teeth_of self.old.teeth.items)) }
+        ensures same { self.new.purpose ≡ self.old.purpose }
+        ensures says { IfOk result (λ o. o ≡ None) }
     {
         if more != 0 {
             self.stage = Stage::Tooth(left, from, more - 1);
-            return Ok(());
+            return Ok(None);
         }
         let teeth = std::mem::replace(&mut self.teeth, Vec::new(alloc));
         match self.handle.take() {

@@ -1,17 +1,21 @@
 //! A text that comes in pieces.
-ghost use Rattle.std.specs.Prelude.{◌≡◌, ℕ, ◌<◌, ◌≤◌, ◌+◌, ◌^◌, ◌∷◌, [], ◌++◌, true};
+ghost use Rattle.std.specs.Prelude.{◌≡◌, ℕ, ◌<◌, ◌≤◌, ◌+◌, ◌^◌, ◌∷◌, [], ◌++◌, true, OnOk};
 ghost use Rattle.certdef.specs.Items.{item_of};
-ghost use Rattle.certdef.specs.Tests.{verifier};
 ghost use Rattle.certdef.specs.Verdicts as spec;
 ghost use Rattle.certdef.specs.Bytes.{start, reads, line_on, byte_on, bytes_on, end_of};
 ghost use Rattle.certcheck.specs.Answers.{verdict_of};
+ghost use Rattle.verdict.specs.Parts.{line_says, byte_says, bytes_say};
+ghost use Rattle.certcheck.specs.Keeping.{Keeps};
+ghost use Rattle.certcheck.specs.Purposes.{tests_by};
 ghost use Rattle.certcheck.specs.Stages.{stage_of, Stands};
-ghost use Rattle.certcheck.specs.Readings.{reading_of, Reads, HasNoLineEnd, HasRoom};
+ghost use Rattle.certcheck.specs.Readings.{reading_of, Reads, SaysMore, HasNoLineEnd, HasRoom};
 ghost use Rattle.certcheck.specs.Checkers.{sizes_of};
 
 use crate::answer::{Answer, Trouble};
 use crate::count::Count;
+use crate::part::Parts;
 use crate::progress::{Progress, Stage};
+use crate::purpose::Purpose;
 use crate::sizes::Sizes;
 use memchr::memchr;
 use std::alloc::Global;
@@ -24,23 +28,27 @@ const MOST: u64 = 1 << 60;
 const LONGEST: usize = 16384;
 
 /// How far a text has been read, and the bytes of the line that is begun.
-#[derive(Debug, Drop)]
+#[derive(Drop)]
 pub(crate) struct Reading {
     count: Count,
     progress: Progress,
     begun: Vec<u8>,
+    pub(crate) parts: Parts,
 }
 
 impl Reading {
     /// Before the first byte of a text for n cities.
-    pub(crate) fn new(alloc: Global, n: u32) -> Reading
+    pub(crate) fn new(alloc: Global, n: u32, purpose: Purpose) -> Reading
+        ensures purpose { result.progress.purpose ≡ purpose }
         ensures start { reading_of result ≡ start }
         ensures stands { Stands n result.progress }
+        ensures nothing { Keeps result.parts [] }
     {
         Reading {
             count: Count::new(),
-            progress: Progress::new(alloc, n),
+            progress: Progress::new(alloc, n, purpose),
             begun: Vec::new(alloc),
+            parts: Parts::new(alloc),
         }
     }
 
@@ -48,10 +56,14 @@ impl Reading {
     fn end_line(&mut self, alloc: Global, instance: &Instance) -> Result<(), Trouble>
         requires few { self.old.count.read < 2 ^ 60 }
         requires stands { Stands instance.now.n self.old.progress }
-        ensures { Reads instance.now.n result self.new (line_on self.old.count.at self.old.count.read (spec.line_step (verifier instance.now) self.old.count.at (stage_of self.old.progress) (item_of instance.now.n self.old.begun.items))) }
+        ensures reads { Reads instance.now.n result self.new (line_on self.old.count.at self.old.count.read (spec.line_step (tests_by self.old.progress.purpose instance.now) self.old.count.at (stage_of self.old.progress) (item_of instance.now.n self.old.begun.items))) }
+        ensures same { self.new.progress.purpose ≡ self.old.progress.purpose }
+        ensures says { OnOk result (SaysMore self.old self.new (line_says instance.now.n (stage_of self.old.progress) (item_of instance.now.n self.old.begun.items))) }
     {
-        self.progress
+        let part = self
+            .progress
             .line(alloc, instance, self.count.at(), &self.begun)?;
+        self.parts.put(self.progress.purpose, part)?;
         self.count = self.count.with_line_end();
         self.begun.clear();
         Ok(())
@@ -60,7 +72,9 @@ impl Reading {
     /// Takes a byte.
     fn byte(&mut self, alloc: Global, instance: &Instance, byte: u8) -> Result<(), Trouble>
         requires { Stands instance.now.n self.old.progress }
-        ensures { Reads instance.now.n result self.new (byte_on (verifier instance.now) (reading_of self.old) byte) }
+        ensures reads { Reads instance.now.n result self.new (byte_on (tests_by self.old.progress.purpose instance.now) (reading_of self.old) byte) }
+        ensures same { self.new.progress.purpose ≡ self.old.progress.purpose }
+        ensures says { OnOk result (SaysMore self.old self.new (byte_says instance.now.n (reading_of self.old) byte)) }
     {
         if self.count.read() >= MOST {
             return Err(Trouble::Refused(10, self.count.at()));
@@ -83,7 +97,9 @@ impl Reading {
     fn run(&mut self, alloc: Global, instance: &Instance, run: &[u8]) -> Result<(), Trouble>
         requires stands { Stands instance.now.n self.old.progress }
         requires no_end { HasNoLineEnd run.now }
-        ensures { Reads instance.now.n result self.new (bytes_on (verifier instance.now) (reads (reading_of self.old)) run.now) }
+        ensures reads { Reads instance.now.n result self.new (bytes_on (tests_by self.old.progress.purpose instance.now) (reads (reading_of self.old)) run.now) }
+        ensures same { self.new.progress.purpose ≡ self.old.progress.purpose }
+        ensures says { OnOk result (SaysMore self.old self.new (bytes_say (tests_by self.old.progress.purpose instance.now) (reads (reading_of self.old)) run.now)) }
     {
         if !self.has_room(run.len()) {
             return self.one_by_one(alloc, instance, run);
@@ -101,7 +117,9 @@ impl Reading {
         bytes: &[u8],
     ) -> Result<(), Trouble>
         requires { Stands instance.now.n self.old.progress }
-        ensures { Reads instance.now.n result self.new (bytes_on (verifier instance.now) (reads (reading_of self.old)) bytes.now) }
+        ensures reads { Reads instance.now.n result self.new (bytes_on (tests_by self.old.progress.purpose instance.now) (reads (reading_of self.old)) bytes.now) }
+        ensures same { self.new.progress.purpose ≡ self.old.progress.purpose }
+        ensures says { OnOk result (SaysMore self.old self.new (bytes_say (tests_by self.old.progress.purpose instance.now) (reads (reading_of self.old)) bytes.now)) }
     {
         for byte in bytes {
             self.byte(alloc, instance, *byte)?;
@@ -113,13 +131,16 @@ impl Reading {
     fn line(&mut self, alloc: Global, instance: &Instance, run: &[u8]) -> Result<(), Trouble>
         requires stands { Stands instance.now.n self.old.progress }
         requires no_end { HasNoLineEnd run.now }
-        ensures { Reads instance.now.n result self.new (bytes_on (verifier instance.now) (reads (reading_of self.old)) (run.now ++ 10 ∷ [])) }
+        ensures reads { Reads instance.now.n result self.new (bytes_on (tests_by self.old.progress.purpose instance.now) (reads (reading_of self.old)) (run.now ++ 10 ∷ [])) }
+        ensures same { self.new.progress.purpose ≡ self.old.progress.purpose }
+        ensures says { OnOk result (SaysMore self.old self.new (bytes_say (tests_by self.old.progress.purpose instance.now) (reads (reading_of self.old)) (run.now ++ 10 ∷ []))) }
     {
         if !self.begun.is_empty() || !self.has_room(run.len()) {
             self.run(alloc, instance, run)?;
             return self.byte(alloc, instance, b'\n');
         }
-        self.progress.line(alloc, instance, self.count.at(), run)?;
+        let part = self.progress.line(alloc, instance, self.count.at(), run)?;
+        self.parts.put(self.progress.purpose, part)?;
         self.count = self.count.with_bytes(run.len()).with_line_end();
         Ok(())
     }
@@ -144,7 +165,9 @@ impl Reading {
         piece: &[u8],
     ) -> Result<(), Trouble>
         requires { Stands instance.now.n self.old.progress }
-        ensures { Reads instance.now.n result self.new (bytes_on (verifier instance.now) (reads (reading_of self.old)) piece.now) }
+        ensures reads { Reads instance.now.n result self.new (bytes_on (tests_by self.old.progress.purpose instance.now) (reads (reading_of self.old)) piece.now) }
+        ensures same { self.new.progress.purpose ≡ self.old.progress.purpose }
+        ensures says { OnOk result (SaysMore self.old self.new (bytes_say (tests_by self.old.progress.purpose instance.now) (reads (reading_of self.old)) piece.now)) }
     {
         let mut rest = piece;
         while let Some(end) = memchr(b'\n', rest) {
@@ -184,6 +207,7 @@ impl Reading {
             _ => Answer::No(1, self.count.at()),
         }
     }
+
     /// How much is held.
     pub(crate) fn sizes(&self) -> Sizes
         requires { (n : ℕ) × Stands n self.now.progress }

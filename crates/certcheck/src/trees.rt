@@ -1,5 +1,5 @@
 //! The lines of the tree.
-ghost use Rattle.std.specs.Prelude.{◌≡◌, ◌<◌, ◌≤◌, suc, true, length, if◌then◌else◌};
+ghost use Rattle.std.specs.Prelude.{◌≡◌, IfOk, ◌<◌, ◌≤◌, suc, true, length, if◌then◌else◌};
 ghost use Rattle.certdef.specs.Items.{fits, item_of, is_set, edge_line, clique_line};
 ghost use Rattle.certdef.specs.Tests.{verifier};
 ghost use Rattle.certdef.specs.Verdicts as spec;
@@ -8,12 +8,16 @@ ghost use Rattle.branchx.specs.Cond.{condition_of};
 ghost use Rattle.certline.specs.Said.{said};
 ghost use Rattle.certtests.specs.Duals.{AreDuals};
 ghost use Rattle.certcheck.specs.Paths.{later};
+ghost use Rattle.verdict.specs.Parts as parts;
+ghost use Rattle.certcheck.specs.Purposes.{tests_by, parts_in};
 ghost use Rattle.certcheck.specs.Stages.{head, duals, open_duals, stage_of, IsOf, Stands, Goes};
 
 use crate::answer::Trouble;
 use crate::following::{may_follow, may_follow_city};
+use crate::part::Part;
 use crate::path::next_child;
 use crate::progress::{Progress, Stage};
+use crate::purpose::Purpose;
 use branchx::Cond;
 use certline::{Item, read_line};
 use certtests::{city_set, closes, is_proper, names_clique};
@@ -28,10 +32,12 @@ impl Progress {
         instance: &Instance,
         at: u64,
         item: Item,
-    ) -> Result<(), Trouble>
+    ) -> Result<Option<Part>, Trouble>
         requires of { IsOf instance.now.n self.old }
         requires fits { fits instance.now.n (said item) ≡ true }
-        ensures { Goes instance.now.n result self.new (spec.on_tree (verifier instance.now) (head self.old) self.old.path.conditions (later self.old.path.conditions) at (said item)) }
+        ensures goes { Goes instance.now.n result self.new (spec.on_tree (tests_by self.old.purpose instance.now) (head self.old) self.old.path.conditions (later self.old.path.conditions) at (said item)) }
+        ensures same { self.new.purpose ≡ self.old.purpose }
+        ensures says { IfOk result (λ o. self.old.purpose ≡ Purpose.Resume → parts_in o ≡ parts.tree_says instance.now.n (head self.old) (said item)) }
     {
         match item {
             Item::Edge(u, v) => self.on_edge(alloc, instance, at, u, v),
@@ -42,7 +48,7 @@ impl Progress {
                 self.condition_duals.clear();
                 self.duals_on(alloc, instance, at, a, b, c)
             }
-            Item::Open => Err(Trouble::Refused(8, at)),
+            Item::Open => self.open(alloc, instance, at),
             _ => Err(Trouble::Refused(1, at)),
         }
     }
@@ -55,12 +61,14 @@ impl Progress {
         at: u64,
         u: u32,
         v: u32,
-    ) -> Result<(), Trouble>
+    ) -> Result<Option<Part>, Trouble>
         requires of { IsOf instance.now.n self.old }
         requires least { 1 ≤ u }
         requires rises { u < v }
         requires most { v ≤ instance.now.n }
-        ensures { Goes instance.now.n result self.new (spec.on_tree (verifier instance.now) (head self.old) self.old.path.conditions (later self.old.path.conditions) at (edge_line u v)) }
+        ensures goes { Goes instance.now.n result self.new (spec.on_tree (tests_by self.old.purpose instance.now) (head self.old) self.old.path.conditions (later self.old.path.conditions) at (edge_line u v)) }
+        ensures same { self.new.purpose ≡ self.old.purpose }
+        ensures says { IfOk result (λ o. parts_in o ≡ parts.tree_says instance.now.n (head self.old) (edge_line u v)) }
     {
         let (u, v) = (u - 1, v - 1);
         if self.path.decides(u, v) {
@@ -68,7 +76,7 @@ impl Progress {
         }
         self.path.push(alloc, Cond::Absent(u, v))?;
         self.stage = Stage::Tree;
-        Ok(())
+        Ok(Some(Part::Edge(u, v)))
     }
 
     /// Splits the node by a set.
@@ -78,18 +86,21 @@ impl Progress {
         instance: &Instance,
         at: u64,
         set: Vec<u32>,
-    ) -> Result<(), Trouble>
+    ) -> Result<Option<Part>, Trouble>
         requires of { IsOf instance.now.n self.old }
         requires set { is_set instance.now.n set.items ≡ true }
-        ensures { Goes instance.now.n result self.new (spec.on_tree (verifier instance.now) (head self.old) self.old.path.conditions (later self.old.path.conditions) at (clique_line set.items)) }
+        ensures goes { Goes instance.now.n result self.new (spec.on_tree (tests_by self.old.purpose instance.now) (head self.old) self.old.path.conditions (later self.old.path.conditions) at (clique_line set.items)) }
+        ensures same { self.new.purpose ≡ self.old.purpose }
+        ensures says { IfOk result (λ o. self.old.purpose ≡ Purpose.Resume → parts_in o ≡ parts.tree_says instance.now.n (head self.old) (clique_line set.items)) }
     {
         let set = city_set(alloc, instance.n(), set)?;
         if !is_proper(&set) {
             return Err(Trouble::Refused(5, at));
         }
+        let part = self.clique_part(alloc, &set)?;
         self.path.push(alloc, Cond::Two(set))?;
         self.stage = Stage::Tree;
-        Ok(())
+        Ok(part)
     }
 
     /// Goes on with the duals of a leaf that are left, or closes the leaf.
@@ -101,23 +112,50 @@ impl Progress {
         a: u32,
         b: u32,
         c: u32,
-    ) -> Result<(), Trouble>
+    ) -> Result<Option<Part>, Trouble>
         requires of { IsOf instance.now.n self.old }
         requires duals { AreDuals (length self.old.cuts.items) self.old.path.conditions b c (duals self.old) }
-        ensures { Goes instance.now.n result self.new (spec.duals_on (verifier instance.now) (head self.old) (later self.old.path.conditions) (open_duals self.old from) a b c) }
+        ensures goes { Goes instance.now.n result self.new (spec.duals_on (tests_by self.old.purpose instance.now) (head self.old) (later self.old.path.conditions) (open_duals self.old from) a b c) }
+        ensures same { self.new.purpose ≡ self.old.purpose }
+        ensures says { IfOk result (λ o. self.old.purpose ≡ Purpose.Resume → parts_in o ≡ parts.leaf_says instance.now.n (head self.old) (duals self.old) a b c) }
     {
         if a != 0 || b != 0 || c != 0 {
             self.stage = Stage::Duals(from, a, b, c);
-            return Ok(());
+            return Ok(None);
         }
         self.close(alloc, instance, from)
     }
 
     /// Closes a leaf whose lines are read.
-    fn close(&mut self, alloc: Global, instance: &Instance, from: u64) -> Result<(), Trouble>
+    fn close(
+        &mut self,
+        alloc: Global,
+        instance: &Instance,
+        from: u64,
+    ) -> Result<Option<Part>, Trouble>
         requires of { IsOf instance.now.n self.old }
         requires duals { AreDuals (length self.old.cuts.items) self.old.path.conditions 0 0 (duals self.old) }
-        ensures { Goes instance.now.n result self.new (spec.duals_on (verifier instance.now) (head self.old) (later self.old.path.conditions) (open_duals self.old from) 0 0 0) }
+        ensures goes { Goes instance.now.n result self.new (spec.duals_on (tests_by self.old.purpose instance.now) (head self.old) (later self.old.path.conditions) (open_duals self.old from) 0 0 0) }
+        ensures same { self.new.purpose ≡ self.old.purpose }
+        ensures says { IfOk result (λ o. self.old.purpose ≡ Purpose.Resume → parts_in o ≡ parts.leaf_says instance.now.n (head self.old) (duals self.old) 0 0 0) }
+    {
+        match self.purpose {
+            Purpose::Verify => self.close_proof(alloc, instance, from),
+            Purpose::Resume => self.close_body(alloc, instance, from),
+        }
+    }
+
+    /// Closes a leaf of a proof.
+    fn close_proof(
+        &mut self,
+        alloc: Global,
+        instance: &Instance,
+        from: u64,
+    ) -> Result<Option<Part>, Trouble>
+        requires of { IsOf instance.now.n self.old }
+        requires duals { AreDuals (length self.old.cuts.items) self.old.path.conditions 0 0 (duals self.old) }
+        ensures goes { Goes instance.now.n result self.new (spec.duals_on (verifier instance.now) (head self.old) (later self.old.path.conditions) (open_duals self.old from) 0 0 0) }
+        ensures same { self.new.purpose ≡ self.old.purpose }
     {
         if !closes(
             alloc,
@@ -131,13 +169,15 @@ impl Progress {
         )? {
             return Err(Trouble::Refused(7, from));
         }
-        self.end_tree(alloc, instance)
+        self.end_tree(alloc, instance)?;
+        Ok(None)
     }
 
     /// Goes to the next tree, if there is one.
-    fn end_tree(&mut self, alloc: Global, instance: &Instance) -> Result<(), Trouble>
+    pub(crate) fn end_tree(&mut self, alloc: Global, instance: &Instance) -> Result<(), Trouble>
         requires { IsOf instance.now.n self.old }
-        ensures { Goes instance.now.n result self.new (spec.go (spec.wants_trees (head self.old) (later self.old.path.conditions))) }
+        ensures goes { Goes instance.now.n result self.new (spec.go (spec.wants_trees (head self.old) (later self.old.path.conditions))) }
+        ensures same { self.new.purpose ≡ self.old.purpose }
     {
         if next_child(alloc, &mut self.path)? {
             self.stage = Stage::Tree;
@@ -158,11 +198,13 @@ impl Progress {
         c: u32,
         at: u64,
         item: Item,
-    ) -> Result<(), Trouble>
+    ) -> Result<Option<Part>, Trouble>
         requires of { IsOf instance.now.n self.old }
         requires duals { AreDuals (length self.old.cuts.items) self.old.path.conditions b c (duals self.old) }
         requires fits { fits instance.now.n (said item) ≡ true }
-        ensures { Goes instance.now.n result self.new (spec.on_dual (verifier instance.now) (head self.old) (later self.old.path.conditions) (open_duals self.old from) (suc a) b c at (said item)) }
+        ensures goes { Goes instance.now.n result self.new (spec.on_dual (tests_by self.old.purpose instance.now) (head self.old) (later self.old.path.conditions) (open_duals self.old from) (suc a) b c at (said item)) }
+        ensures same { self.new.purpose ≡ self.old.purpose }
+        ensures says { IfOk result (λ o. self.old.purpose ≡ Purpose.Resume → parts_in o ≡ parts.dual_says instance.now.n (head self.old) (duals self.old) (suc a) b c (said item)) }
     {
         let Item::City(city, dual) = item else {
             return Err(Trouble::Refused(1, at));
@@ -184,11 +226,13 @@ impl Progress {
         c: u32,
         at: u64,
         item: Item,
-    ) -> Result<(), Trouble>
+    ) -> Result<Option<Part>, Trouble>
         requires of { IsOf instance.now.n self.old }
         requires duals { AreDuals (length self.old.cuts.items) self.old.path.conditions (suc b) c (duals self.old) }
         requires fits { fits instance.now.n (said item) ≡ true }
-        ensures { Goes instance.now.n result self.new (spec.on_dual (verifier instance.now) (head self.old) (later self.old.path.conditions) (open_duals self.old from) 0 (suc b) c at (said item)) }
+        ensures goes { Goes instance.now.n result self.new (spec.on_dual (tests_by self.old.purpose instance.now) (head self.old) (later self.old.path.conditions) (open_duals self.old from) 0 (suc b) c at (said item)) }
+        ensures same { self.new.purpose ≡ self.old.purpose }
+        ensures says { IfOk result (λ o. self.old.purpose ≡ Purpose.Resume → parts_in o ≡ parts.dual_says instance.now.n (head self.old) (duals self.old) 0 (suc b) c (said item)) }
     {
         let Item::CutDual(cut, dual) = item else {
             return Err(Trouble::Refused(1, at));
@@ -209,11 +253,13 @@ impl Progress {
         c: u32,
         at: u64,
         item: Item,
-    ) -> Result<(), Trouble>
+    ) -> Result<Option<Part>, Trouble>
         requires of { IsOf instance.now.n self.old }
         requires duals { AreDuals (length self.old.cuts.items) self.old.path.conditions 0 (suc c) (duals self.old) }
         requires fits { fits instance.now.n (said item) ≡ true }
-        ensures { Goes instance.now.n result self.new (spec.on_dual (verifier instance.now) (head self.old) (later self.old.path.conditions) (open_duals self.old from) 0 0 (suc c) at (said item)) }
+        ensures goes { Goes instance.now.n result self.new (spec.on_dual (tests_by self.old.purpose instance.now) (head self.old) (later self.old.path.conditions) (open_duals self.old from) 0 0 (suc c) at (said item)) }
+        ensures same { self.new.purpose ≡ self.old.purpose }
+        ensures says { IfOk result (λ o. self.old.purpose ≡ Purpose.Resume → parts_in o ≡ parts.dual_says instance.now.n (head self.old) (duals self.old) 0 0 (suc c) (said item)) }
     {
         let Item::CondDual(depth, dual) = item else {
             return Err(Trouble::Refused(1, at));
@@ -236,11 +282,13 @@ impl Progress {
         c: u32,
         at: u64,
         item: Item,
-    ) -> Result<(), Trouble>
+    ) -> Result<Option<Part>, Trouble>
         requires of { IsOf instance.now.n self.old }
         requires duals { AreDuals (length self.old.cuts.items) self.old.path.conditions b c (duals self.old) }
         requires fits { fits instance.now.n (said item) ≡ true }
-        ensures { Goes instance.now.n result self.new (spec.on_dual (verifier instance.now) (head self.old) (later self.old.path.conditions) (open_duals self.old from) a b c at (said item)) }
+        ensures goes { Goes instance.now.n result self.new (spec.on_dual (tests_by self.old.purpose instance.now) (head self.old) (later self.old.path.conditions) (open_duals self.old from) a b c at (said item)) }
+        ensures same { self.new.purpose ≡ self.old.purpose }
+        ensures says { IfOk result (λ o. self.old.purpose ≡ Purpose.Resume → parts_in o ≡ parts.dual_says instance.now.n (head self.old) (duals self.old) a b c (said item)) }
     {
         if a != 0 {
             self.on_city(alloc, instance, from, a - 1, b, c, at, item)
@@ -260,10 +308,12 @@ impl Progress {
         instance: &Instance,
         at: u64,
         item: Item,
-    ) -> Result<(), Trouble>
+    ) -> Result<Option<Part>, Trouble>
         requires stands { Stands instance.now.n self.old }
         requires fits { fits instance.now.n (said item) ≡ true }
-        ensures { Goes instance.now.n result self.new (spec.step (verifier instance.now) at (stage_of self.old) (said item)) }
+        ensures goes { Goes instance.now.n result self.new (spec.step (tests_by self.old.purpose instance.now) at (stage_of self.old) (said item)) }
+        ensures same { self.new.purpose ≡ self.old.purpose }
+        ensures says { IfOk result (λ o. self.old.purpose ≡ Purpose.Resume → parts_in o ≡ parts.says instance.now.n (stage_of self.old) (said item)) }
     {
         match self.stage {
             Stage::Title => self.on_title(instance, at, item),
@@ -300,9 +350,11 @@ impl Progress {
         instance: &Instance,
         at: u64,
         bytes: &[u8],
-    ) -> Result<(), Trouble>
+    ) -> Result<Option<Part>, Trouble>
         requires { Stands instance.now.n self.old }
-        ensures { Goes instance.now.n result self.new (spec.line_step (verifier instance.now) at (stage_of self.old) (item_of instance.now.n bytes.now)) }
+        ensures goes { Goes instance.now.n result self.new (spec.line_step (tests_by self.old.purpose instance.now) at (stage_of self.old) (item_of instance.now.n bytes.now)) }
+        ensures same { self.new.purpose ≡ self.old.purpose }
+        ensures says { IfOk result (λ o. self.old.purpose ≡ Purpose.Resume → parts_in o ≡ parts.line_says instance.now.n (stage_of self.old) (item_of instance.now.n bytes.now)) }
     {
         match read_line(alloc, instance.n(), bytes)? {
             Some(item) => self.step(alloc, instance, at, item),

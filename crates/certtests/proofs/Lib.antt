@@ -3,3 +3,5 @@ pub mod TourLemmas
 pub mod DualLemmas
 pub mod PathLemmas
 pub mod StepLemmas
+pub mod MergeLemmas
+pub mod Rising

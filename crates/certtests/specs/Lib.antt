@@ -2,3 +2,4 @@ pub mod Listed
 pub mod Duals
 pub mod Places
 pub mod Followers
+pub mod Merging

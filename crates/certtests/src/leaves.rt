@@ -1,6 +1,6 @@
 //! Closed leaves.
-ghost use Rattle.std.specs.Prelude.{◌≡◌, length, map, IfOk};
-ghost use Rattle.std.specs.Option.{option_map};
+ghost use Rattle.std.specs.Prelude.{◌≡◌, length, map, IfOk, IfSome};
+ghost use Rattle.std.specs.Option.{option_map, is_some};
 ghost use Rattle.std.specs.Int.Signed.{lt_z};
 ghost use Rattle.std.specs.List.{AllByRecursion};
 ghost use Rattle.tspdef.specs.Cuts.{IsCut};
@@ -8,12 +8,16 @@ ghost use Rattle.tspdef.specs.Paths.{branches, condition_at};
 ghost use Rattle.tspdef.specs.Closings.{IsClosing};
 ghost use Rattle.tspdef.specs.Bounds as bounds;
 ghost use Rattle.branchx.specs.Cond.{condition_of, conditions_of, is_fixed as fixed_pair};
+ghost use Rattle.certdef.specs.Accepted as defs;
 ghost use Rattle.certdef.specs.Accepted.{is_clique};
 ghost use Rattle.certdef.specs.Tests.{closes_leaf};
+ghost use Rattle.verdict.specs.Bodies.{merged_closing, closes_merged};
 ghost use Rattle.certtests.specs.Listed.{listed};
+ghost use Rattle.certtests.specs.Merging.{enough};
 ghost use Rattle.certtests.specs.Duals.{AreDuals};
 
 use crate::duals::closing_of;
+use crate::merging::merged_of;
 use branchx::{Cond, Path};
 use cutform::Cut;
 use pricer::{Closing, bound, needed};
@@ -81,6 +85,52 @@ pub fn closes(
         condition_duals,
     )?;
     Ok(exceeds(instance, told, path, &closing))
+}
+
+/// The closing that the duals of a leaf are, with equal cuts as one, if it closes the leaf for the bound that a text tells. Its cost is that of
+/// `closes`, and for each of k named cuts a move of the k cuts at most.
+pub fn closing_if_enough(
+    alloc: Global,
+    instance: &Instance,
+    told: u64,
+    cuts: &[Cut],
+    path: &Path,
+    cities: &[(u32, i64)],
+    cut_duals: &[(u32, u64)],
+    condition_duals: &[(u32, u64)],
+) -> Result<Option<Closing>, AllocError>
+    requires cities_of { path.now.n ≡ instance.now.n }
+    requires cuts { AllByRecursion (IsCut instance.now.n) cuts.now }
+    requires duals { AreDuals (length cuts.now) path.now.conditions 0 0 (record { cities = cities.now; cuts = cut_duals.now; conds = condition_duals.now }) }
+    ensures found { IfOk result (λ o. is_some o ≡ closes_merged instance.now told (map listed cuts.now) path.now.conditions (record { cities = cities.now; cuts = cut_duals.now; conds = condition_duals.now })) }
+    ensures value { IfOk result (λ o. IfSome o (λ c. c ≡ merged_closing (defs.closing_of instance.now.n (defs.cuts_of instance.now.n (map listed cuts.now)) (record { cities = cities.now; cuts = cut_duals.now; conds = condition_duals.now })))) }
+{
+    let merged = merged_of(
+        alloc,
+        instance.n(),
+        cuts,
+        cities,
+        cut_duals,
+        condition_duals,
+    )?;
+    Ok(if_enough(instance, told, path, merged))
+}
+
+/// The closing, if there is one and its bound exceeds what a bound for all tours needs.
+fn if_enough(
+    instance: &Instance,
+    told: u64,
+    path: &Path,
+    merged: Option<Closing>,
+) -> Option<Closing>
+    requires cities { path.now.n ≡ instance.now.n }
+    requires closing { IfSome merged (λ c. IsClosing instance.now.n path.now.conditions c) }
+    ensures { result ≡ enough instance.now told path.now.conditions merged }
+{
+    match merged {
+        Some(closing) if exceeds(instance, told, path, &closing) => Some(closing),
+        _ => None,
+    }
 }
 
 /// Whether a closing's bound exceeds what a bound for all tours needs.

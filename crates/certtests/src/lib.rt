@@ -8,12 +8,13 @@
 mod cuts;
 mod duals;
 mod leaves;
+mod merging;
 mod sets;
 mod steps;
 mod tours;
 
 pub use cuts::{comb, odd, subtour};
-pub use leaves::{closes, names_clique};
+pub use leaves::{closes, closing_if_enough, names_clique};
 pub use sets::{city_set, is_proper};
 pub use tours::{canonical_tour, has_length};
 

@@ -60,13 +60,13 @@ byte_lines j l r b bs false false false true u t more h =
     record { lines = k.lines; said = sym (append_assoc r.begun (b ∷ []) bs) ∙ k.said; verdict = k.verdict; few = λ p. few_more r.read bs few k.few }
 byte_lines j l r b bs false false false false u t more h = cc
 
-bytes_lines : (j : Tests) (l : ℕ × ℕ) (r : Reading) (bs : List ℕ) → verdict_at_end (bytes_on j (reads r) bs) ≡ yes l.0 l.1 → Lines j l r bs
+pub bytes_lines : (j : Tests) (l : ℕ × ℕ) (r : Reading) (bs : List ℕ) → verdict_at_end (bytes_on j (reads r) bs) ≡ yes l.0 l.1 → Lines j l r bs
 bytes_lines j l r [] h = end_line j l r (nat_lt 0 (length r.begun)) refl h r.begun refl
 bytes_lines j l r (b ∷ bs) h = byte_lines j l r b bs (nat_le most_bytes r.read) (is_end r.stage) (b == 10) (nat_lt (length r.begun) longest) refl refl (λ q k. bytes_lines j l q bs k) h
 
 -- ---- from lines to bytes
 
-goes_on : (j : Tests) (l : ℕ × ℕ) (at : ℕ) (s : Stage) (r : Option Item) (xs : List (Option Item)) → run j (at + 1) (line_step j at s r) xs ≡ yes l.0 l.1 → is_end s ≡ false
+pub goes_on : (j : Tests) (l : ℕ × ℕ) (at : ℕ) (s : Stage) (r : Option Item) (xs : List (Option Item)) → run j (at + 1) (line_step j at s r) xs ≡ yes l.0 l.1 → is_end s ≡ false
 goes_on j l at (wants_trees h []) None xs e = cc
 goes_on j l at (wants_trees h []) (Some x) xs e = cc
 goes_on j l at (wants_trees h (p ∷ ps)) r xs e = refl
@@ -87,11 +87,11 @@ append_nil : {X : Type 0} (xs : List X) → xs ++ [] ≡ xs
 append_nil [] = refl
 append_nil (x ∷ xs) = ap (λ r. x ∷ r) (append_nil xs)
 
-length_more : (xs : List ℕ) (x : ℕ) → length (xs ++ x ∷ []) ≡ length xs + 1
+pub length_more : (xs : List ℕ) (x : ℕ) → length (xs ++ x ∷ []) ≡ length xs + 1
 length_more [] x = refl
 length_more (y ∷ ys) x = let r = length_more ys x in omega arith
 
-whole_line : (j : Tests) (at read : ℕ) (s : Stage) (begun w rest : List ℕ) → is_end s ≡ false → AllByRecursion InLine w → length begun + length w ≤ longest → read + length w < most_bytes
+pub whole_line : (j : Tests) (at read : ℕ) (s : Stage) (begun w rest : List ℕ) → is_end s ≡ false → AllByRecursion InLine w → length begun + length w ≤ longest → read + length w < most_bytes
     → bytes_on j (reads (record { at = at; read = read; stage = s; begun = begun })) (ended w ++ rest) ≡ bytes_on j (line_on at (read + length w) (line_step j at s (item_of j.n (begun ++ w)))) rest
 whole_line j at read s begun [] rest e p l f =
     let few : nat_le most_bytes read ≡ false = lt-leb most_bytes read (omega arith) in
@@ -130,7 +130,7 @@ none_stops : (j : Tests) (l : ℕ × ℕ) (at : ℕ) (s : Stage) (r : Option Ite
 none_stops j l at s None xs e h = cc
 none_stops j l at s (Some x) xs e h = cc
 
-text_length : (w : List ℕ) (ws : List (List ℕ)) → length (text_of (w ∷ ws)) ≡ length w + 1 + length (text_of ws)
+pub text_length : (w : List ℕ) (ws : List (List ℕ)) → length (text_of (w ∷ ws)) ≡ length w + 1 + length (text_of ws)
 text_length w ws = length-append (ended w) (text_of ws) ∙ ap (λ k. k + length (text_of ws)) (length_more w 10)
 
 -- a reading at the start of a line, unless the text was refused
@@ -138,7 +138,7 @@ abbrev pub begins : ℕ → ℕ → Outcome → Read
 begins at read (go s) = reads (record { at = at; read = read; stage = s; begun = [] })
 begins at read (refused k from) = stops k from
 
-line_begins : (at read : ℕ) (o : Outcome) → line_on at read o ≡ begins (at + 1) (read + 1) o
+pub line_begins : (at read : ℕ) (o : Outcome) → line_on at read o ≡ begins (at + 1) (read + 1) o
 line_begins at read (go s) = refl
 line_begins at read (refused k from) = refl
 
@@ -156,7 +156,7 @@ lines_bytes j l at read (go s) (w ∷ ws) h f e = ⊎_elim
 
 -- ---- whole texts
 
-none_or_some : (bs : List ℕ) → (0 < length bs → 0 + length bs ≤ most_bytes) → length bs ≤ most_bytes
+pub none_or_some : (bs : List ℕ) → (0 < length bs → 0 + length bs ≤ most_bytes) → length bs ≤ most_bytes
 none_or_some [] f = omega arith
 none_or_some (b ∷ bs) f = let g = f (omega arith) in omega arith
 

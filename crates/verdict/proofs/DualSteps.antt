@@ -32,7 +32,7 @@ in_front zs x bs rest xs e f = ap (λ r. x ∷ r) (f ∙ ap (λ r. (r ++ bs) ++ 
 nil_front : (zs : List Item) (x : Item) (bs : List Item) → zs ≡ [] → x ∷ zs ++ bs ≡ zs ++ x ∷ bs
 nil_front zs x bs e = ap (λ r. x ∷ r ++ bs) e ∙ ap (λ r. r ++ x ∷ bs) (sym e)
 
-joined_nil : (d e : Duals) → length e.cities ≡ 0 → length e.cuts ≡ 0 → length e.conds ≡ 0 → joined d e ≡ d
+pub joined_nil : (d e : Duals) → length e.cities ≡ 0 → length e.cuts ≡ 0 → length e.conds ≡ 0 → joined d e ≡ d
 joined_nil d e a b c =
     ap (λ r. record { cities = r; cuts = d.cuts ++ e.cuts; conds = d.conds ++ e.conds }) (ap (λ r. d.cities ++ r) (empty e.cities a) ∙ append_nil d.cities)
     ∙ ap (λ r. record { cities = d.cities; cuts = r; conds = d.conds ++ e.conds }) (ap (λ r. d.cuts ++ r) (empty e.cuts b) ∙ append_nil d.cuts)
@@ -77,7 +77,7 @@ duals_back j l h ps o zero (suc b) c xs k = k
 duals_back j l h ps o zero zero (suc c) xs k = k
 
 -- numbers rise through the next one
-rises_next : {X : Type 0} (ps : List (ℕ × X)) (p : ℕ × X) (most : ℕ) (qs : List ℕ) → rises (after ps) most (p.0 ∷ qs) ≡ true → (nat_le (after ps) p.0 ≡ true) × (nat_le p.0 most ≡ true) × (rises (after (ps ++ p ∷ [])) most qs ≡ true)
+pub rises_next : {X : Type 0} (ps : List (ℕ × X)) (p : ℕ × X) (most : ℕ) (qs : List ℕ) → rises (after ps) most (p.0 ∷ qs) ≡ true → (nat_le (after ps) p.0 ≡ true) × (nat_le p.0 most ≡ true) × (rises (after (ps ++ p ∷ [])) most qs ≡ true)
 rises_next ps p most qs e =
     let a = and_parts (nat_le (after ps) p.0 && nat_le p.0 most) (rises (p.0 + 1) most qs) e in
     let b = and_parts (nat_le (after ps) p.0) (nat_le p.0 most) a.0 in

@@ -15,3 +15,7 @@ pub mod Stands
 pub mod Faults
 pub mod Refusing
 pub mod WrongValues
+pub mod Merging
+pub mod Bodies
+pub mod Saying
+pub mod SayingBytes

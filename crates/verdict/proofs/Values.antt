@@ -26,11 +26,11 @@ use Rattle.verdict.proofs.Decisions.{tour_from_one_yes, yes_tour_from_one, prope
 
 -- ---- lists
 
-all_first : {X : Type 0} (P : X → Type 0) (xs ys : List X) → AllByRecursion P (xs ++ ys) → AllByRecursion P xs
+pub all_first : {X : Type 0} (P : X → Type 0) (xs ys : List X) → AllByRecursion P (xs ++ ys) → AllByRecursion P xs
 all_first P [] ys h = tt
 all_first P (x ∷ xs) ys h = (h.0, all_first P xs ys h.1)
 
-all_last : {X : Type 0} (P : X → Type 0) (xs ys : List X) → AllByRecursion P (xs ++ ys) → AllByRecursion P ys
+pub all_last : {X : Type 0} (P : X → Type 0) (xs ys : List X) → AllByRecursion P (xs ++ ys) → AllByRecursion P ys
 all_last P [] ys h = h
 all_last P (x ∷ xs) ys h = all_last P xs ys h.1
 
@@ -43,7 +43,7 @@ length_map f (x ∷ xs) = let r = length_map f xs in omega arith
 bounds_of : (n : ℕ) (i : Item) → fits n i ≡ true → in_bounds n i ≡ true
 bounds_of n i f = (and_parts (in_bounds n i) (nat_le (length (line i)) longest) f).0
 
-edge_bounds : (n u v : ℕ) → fits n (edge_line u v) ≡ true → (u - 1 < v - 1) × (v - 1 < n)
+pub edge_bounds : (n u v : ℕ) → fits n (edge_line u v) ≡ true → (u - 1 < v - 1) × (v - 1 < n)
 edge_bounds n u v f =
     let p = and_parts (nat_lt 0 u) (nat_lt u v && nat_le v n) (bounds_of n (edge_line u v) f) in
     let q = and_parts (nat_lt u v) (nat_le v n) p.1 in
@@ -201,11 +201,11 @@ yes_tree i h path (clique_split q t z) o w s n = (
   (yes_tree i h (path ++ two (from_zero q) ∷ []) t o.0 w.0 s.1.0 (omega arith), yes_tree i h (path ++ four (from_zero q) ∷ []) z o.1 w.1 s.1.1 (omega arith)),
 )
 
-cuts_yes : (n : ℕ) (cs : List Listed) → AllByRecursion (λ c. is_cut n (cut_of n c) ≡ true) cs → AllByRecursion (IsCut n) (cuts_of n cs)
+pub cuts_yes : (n : ℕ) (cs : List Listed) → AllByRecursion (λ c. is_cut n (cut_of n c) ≡ true) cs → AllByRecursion (IsCut n) (cuts_of n cs)
 cuts_yes n [] h = tt
 cuts_yes n (c ∷ cs) h = (cut_yes n (cut_of n c) h.0, cuts_yes n cs h.1)
 
-yes_cuts : (n : ℕ) (cs : List Listed) → AllByRecursion (IsCut n) (cuts_of n cs) → AllByRecursion (λ c. is_cut n (cut_of n c) ≡ true) cs
+pub yes_cuts : (n : ℕ) (cs : List Listed) → AllByRecursion (IsCut n) (cuts_of n cs) → AllByRecursion (λ c. is_cut n (cut_of n c) ≡ true) cs
 yes_cuts n [] h = tt
 yes_cuts n (c ∷ cs) h = (yes_cut n (cut_of n c) h.0, yes_cuts n cs h.1)
 
@@ -213,7 +213,7 @@ yes_cuts n (c ∷ cs) h = (yes_cut n (cut_of n c) h.0, yes_cuts n cs h.1)
 pub depths_at_root : (i : Instance) (t : Written) → DepthsName [] t → DepthsName (root i) t
 depths_at_root i t h = subst (λ r. DepthsName r t) (append_nil (root i)) (depths_behind i.fixed [] t h)
 
-depths_from_root : (i : Instance) (t : Written) → DepthsName (root i) t → DepthsName [] t
+pub depths_from_root : (i : Instance) (t : Written) → DepthsName (root i) t → DepthsName [] t
 depths_from_root i t h = depths_without i.fixed [] t (subst (λ r. DepthsName r t) (sym (append_nil (root i))) h)
 
 -- ---- by a verifier's tests
@@ -227,11 +227,11 @@ pub record AreLinesOf (i : Instance) (ls : List (List ℕ)) (l b : ℕ) (p : Pro
 abbrev pub AreAccepted : Instance → List (List ℕ) → ℕ → ℕ → Type 0
 AreAccepted i ls l b = (p : Proof) × AreLinesOf i ls l b p
 
-bound_yes : (i : Instance) (told : Option ℕ) (l b : ℕ) → IsToldBound (verifier i) told (l, b) → IsBoundOf told l b
+pub bound_yes : (i : Instance) (told : Option ℕ) (l b : ℕ) → IsToldBound (verifier i) told (l, b) → IsBoundOf told l b
 bound_yes i None l b h = h
 bound_yes i (Some k) l b h = (h.0, ltb-true b l h.1)
 
-yes_bound : (i : Instance) (told : Option ℕ) (l b : ℕ) → IsBoundOf told l b → IsToldBound (verifier i) told (l, b)
+pub yes_bound : (i : Instance) (told : Option ℕ) (l b : ℕ) → IsBoundOf told l b → IsToldBound (verifier i) told (l, b)
 yes_bound i None l b h = h
 yes_bound i (Some k) l b h = (h.0, lt-ltb b l h.1)
 

@@ -5,3 +5,5 @@ pub mod Spellings
 pub mod Faults
 pub mod Refusals
 pub mod WrongValues
+pub mod Bodies
+pub mod Parts

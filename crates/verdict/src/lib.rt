@@ -4,6 +4,8 @@
 #![tactic(auto)]
 
 ghost use Rattle.verdict.specs.Laws.{LinesAreExact, YesIsAcceptedText, ReadsInPieces, ReadIsReadable};
+ghost use Rattle.verdict.specs.Bodies.{YesIsBodyText, ResumedIsSound};
+ghost use Rattle.verdict.specs.Parts.{BodiesSayTheirParts};
 ghost use Rattle.verdict.specs.Spellings.{SpellingsAreApart, NoTextBeginsAnother, BytesHaveOneValue};
 ghost use Rattle.verdict.specs.Refusals.{RefusalsAreOfTheFront, TrailingIsBehindAccepted};
 ghost use Rattle.verdict.specs.WrongValues.{RefusedValuesAreWrong, RefusedLinesAreWrong};
@@ -17,6 +19,14 @@ pub fn lines_are_exact()
 /// The verdict on bytes is yes with a length and a bound exactly where they are a text that is accepted with them.
 pub fn yes_is_accepted_text()
     ensures { YesIsAcceptedText }
+{}
+
+/// The verdict on bytes as a restart body is yes with a length and a bound exactly where they are the text of one, and then they say
+/// its parts as they are read. The tree that a search goes on from, with leaves open that are too weak for its level, is sound for it.
+pub fn yes_is_body_text()
+    ensures exact { YesIsBodyText }
+    ensures parts { BodiesSayTheirParts }
+    ensures sound { ResumedIsSound }
 {}
 
 /// Bytes may be read in pieces.
