@@ -13,3 +13,4 @@ pub mod DegreeLemmas
 pub mod WeightLemmas
 pub mod UnusedLemmas
 pub mod RoundLemmas
+pub mod GroupLemmas

@@ -8,3 +8,4 @@ pub mod Priced
 pub mod PricedInside
 pub mod Pricings
 pub mod Weights
+pub mod Groups

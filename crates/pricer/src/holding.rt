@@ -82,7 +82,8 @@ fn mark_cut(n: u32, marks: &mut [bool], cut: &Cut)
     mark_pairs(marks, cut.pairs());
 }
 
-fn mark_cuts(n: u32, marks: &mut [bool], cuts: &[(Cut, u64)])
+/// Marks the cities that a set of the cuts holds.
+pub fn mark_cuts(n: u32, marks: &mut [bool], cuts: &[(Cut, u64)])
     requires long { n ≤ length marks.old }
     requires cuts { AllByRecursion (λ q. IsCut n q.0) cuts.now }
     ensures { AreMarkedUnless marks.new marks.old (λ v. (c : ℕ) → held (Some v) (cut_rows cuts.now) c ≡ pos 0) }

@@ -8,6 +8,7 @@ mod compared;
 mod decided;
 mod duals;
 mod fitting;
+mod groups;
 mod holding;
 mod light;
 mod light_rows;
