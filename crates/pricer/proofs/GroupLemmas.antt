@@ -85,7 +85,7 @@ grouped_next n size k count own others qs group more e l g m a b =
     let rest : AreGrouped n size k others (drop size qs) = subst (λ (rs : List (Cut × ℕ)). AreGrouped n size k others rs) m b in
     let last : AreGrouped n size k (drop n (own ++ others)) (drop size qs) = subst (λ (ms : List Bool). AreGrouped n size k ms (drop size qs)) (sym (dropped n own others l)) rest in
     let first : (v : ℕ) → is_marked (take n (own ++ others)) v ≡ false → (c : ℕ) → held (Some v) (cut_rows (take size qs)) c ≡ pos 0
-        = λ v h c. subst (λ (rs : List (Cut × ℕ)). held (Some v) (cut_rows rs) c ≡ pos 0) g (a v (subst (λ (ms : List Bool). is_marked ms v ≡ false) (taken n own others l) h) c) in
+    = λ v h c. subst (λ (rs : List (Cut × ℕ)). held (Some v) (cut_rows rs) c ≡ pos 0) g (a v (subst (λ (ms : List Bool). is_marked ms v ≡ false) (taken n own others l) h) c) in
     subst (λ j. AreGrouped n size j (own ++ others) qs) (sym e) (first, last)
 
 pub no_groups : (n size count : ℕ) (marks : List Bool) (qs : List (Cut × ℕ)) → count ≡ 0 → AreGrouped n size count marks qs

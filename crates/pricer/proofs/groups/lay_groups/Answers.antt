@@ -1,5 +1,4 @@
 use Rattle.std.proofs.Common.{◌-◌, ◌^◌, arith, length, Some}
-use Rattle.pricer.specs.Prices.{at}
 use Rattle.pricer.specs.Weights.{weight}
 use Rattle.pricer.proofs.GroupLemmas.{each_of_others, group_light, size_next, laid_next, first_marks, other_marks, room_others}
 use Rattle.pricer.proofs.groups.lay_groups.Goals as goal
