@@ -10,3 +10,4 @@ pub mod Kept
 pub mod Deciding
 pub mod Reporting
 pub mod Playing
+pub mod Offering

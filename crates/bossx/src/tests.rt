@@ -5,7 +5,7 @@ mod drawn;
 mod plain;
 
 use self::acts::{Act, boss_with, first_other, leased, square_boss};
-use crate::{Asked, Boss, Expiry, Front, Offered, Reply, Reported};
+use crate::{Asked, Boss, Event, Expiry, Front, Offered, Reply, Reported};
 use std::alloc::Global;
 use std::test::Fail;
 
@@ -191,6 +191,20 @@ fn a_snapshot_is_what_the_boss_was_started_with(rt: HostRuntime) -> Result<(), F
         (boss.budget(), boss.grunts(), boss.first_nodes()),
         (1, 2, 1)
     );
+    assert_eq!(rt; (boss.instance().n(), boss.first_settled()), (4, 0));
+    Ok(())
+}
+
+#[test]
+fn events_are_played_in_turn(rt: HostRuntime) -> Result<(), Fail> {
+    let alloc = rt.alloc();
+    let mut boss = square_boss(alloc, 1, 0)?;
+    let mut events = Vec::new(alloc);
+    events.push(Event::Gone(1))?;
+    events.push(Event::Expire(0))?;
+    let replies = boss.play(alloc, events)?;
+    let expected = [Reply::Went(None), Reply::Expired(Expiry::Unknown)];
+    assert!(rt; replies.as_slice() == expected.as_slice());
     Ok(())
 }
 

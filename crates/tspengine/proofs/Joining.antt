@@ -3,12 +3,12 @@ use Rattle.std.proofs.Common.{◌≡◌, ℕ, List, [], ◌∷◌, sym, ap, subs
 use Rattle.ports.specs.Outside.{BothTell, WhereTold}
 use Rattle.ports.specs.Desk.{Told}
 use Rattle.ports.specs.Slots.{SlotsTold, with_path}
-use Rattle.ports.specs.Crash.{Moment}
+use Rattle.ports.specs.Crash.{Moment, Since, moment_of}
 use Rattle.clap.specs.Walk.{Text}
 use Rattle.tspdef.specs.Instances.{Instance}
-use Rattle.certdef.specs.Proofs.{Proof}
-use Rattle.slotstore.specs.Store.{loaded}
-use Rattle.slotstore.specs.Crashing.{settled}
+use Rattle.certdef.specs.Proofs.{Proof, text}
+use Rattle.slotstore.specs.Store.{loaded, after_save, ChangesTarget}
+use Rattle.slotstore.specs.Crashing.{Breaks, LoadsAsOr, LoadsOnly, settled}
 use Rattle.slotstore.proofs.Leaving.{by_bytes_is}
 use Rattle.bossx.specs.Books.{Book}
 use Rattle.bossx.specs.Laws.{IsSameStart}
@@ -16,13 +16,13 @@ use Rattle.tspwords.specs.Program.{instance_word, restart_word, budget_of, gap_o
 use Rattle.tspwords.specs.Says.{SaysSolve}
 use Rattle.tspwords.specs.declared.words.Solve.{Solve}
 use Rattle.verification.specs.Transfers.{ReadsInstance}
-use Rattle.tspengine.specs.Calls.{Call}
+use Rattle.tspengine.specs.Calls.{Call, ending_with}
 use Rattle.tspengine.specs.Starts.{Start, Begins, GoesOnWith}
-use Rattle.tspengine.specs.Saves.{AreBodiesOn, HasSaved, HasFailed}
+use Rattle.tspengine.specs.Saves.{AreBodiesOn, IsBodyOn, HasSaved, HasFailed}
 use Rattle.tspengine.specs.Searches.{start_in, IsSearchOf}
 use Rattle.tspengine.specs.Rounds.{AreBodiesFrom, SavesSome, SavesUntil, Searches}
 use Rattle.tspengine.specs.Begun.{IsBegunAnew, IsBegunWith}
-use Rattle.tspengine.specs.Outcomes.{IsOutcome}
+use Rattle.tspengine.specs.Outcomes.{IsOutcome, IsBodyOf}
 use Rattle.tspengine.specs.Solving.{IsBegun, IsSearched, IsRefusedLoad, Solves}
 use Rattle.tspengine.specs.declared.starting.Search.{Search}
 use Rattle.tspengine.specs.declared.starting.Begun.TheVariants as begun
@@ -31,9 +31,9 @@ use Rattle.tspengine.specs.declared.starting.Halt.TheVariants as halt
 use Rattle.tspengine.specs.declared.outcomes.Outcome.{Outcome}
 use Rattle.tspengine.specs.declared.statuses.Status.{Status}
 use Rattle.tspengine.specs.declared.statuses.Status.TheVariants as status
-use Rattle.tspengine.proofs.Storing.{saved_on, failed_on}
+use Rattle.tspengine.proofs.Storing.{saved_on, failed_on, last_saved, last_failed}
 use Rattle.tspengine.proofs.Rounds.{same_start}
-use Rattle.tspengine.proofs.Solves.{load_failed, save_failed, short_begin, short_search}
+use Rattle.tspengine.proofs.Solves.{IsSaved, load_failed, save_failed, short_begin, short_search}
 
 -- ---- what the slots load
 
@@ -120,7 +120,7 @@ searched_of c w i b mid later m u says of is saves =
 pub failed_search : (c : Call) (w : Solve) (i : Instance) (b : Book) (mid : List Moment) (m : Option SlotsTold) → SaysSolve c.words w → IsSearchOf i w.budget w.gap b
     → BothTell (ReadsInstance (instance_word c.words) i) c.before.desk c.after.desk → Begins c i (start_in b)
     → BothTell (IsBegun (restart_word c.words) c.before.moments mid) c.before.slots m → BothTell (SavesUntil b mid c.after.moments) m c.after.slots → Solves status.StoreFault c
-failed_search c w i b mid m says of read begins is saves = elim until_or b mid c.after.moments m c.after.slots saves [
+failed_search c w i b mid m says of read begins is saves = elim (until_or b mid c.after.moments m c.after.slots saves) [
   | inl (e, f) ↦ load_failed c i read (untold (IsBegun (restart_word c.words) c.before.moments mid) (IsBegun (restart_word c.words) c.before.moments c.after.moments) c.before.slots m c.after.slots is e f)
   | inr (bodies, (body, (are, failed))) ↦ save_failed c i (start_in b) bodies body read begins (bodies_of c.words w i b (body ∷ bodies) says of are)
   (failed_on (restart_word c.words) bodies body c.before.moments mid c.after.moments c.before.slots m c.after.slots is failed)
@@ -152,3 +152,37 @@ outcome_at i budget gap old new o of same is =
     (subst (λ (g : ℕ). IsOutcome i budget g (start_in new) o) (same.gap ∙ of.same_gap)
     (subst (λ (k : ℕ). IsOutcome i k new.gap (start_in new) o) (same.budget ∙ of.same_budget)
     (subst (λ (x : Instance). IsOutcome x new.budget new.gap (start_in new) o) (same.instance ∙ of.same_instance) is)))
+
+-- the same of the call at its end
+
+pub begins_end : (c : Call) (desk : Option Told) (slots : Option SlotsTold) (later : List Moment) (i : Instance) (s : Start) → Begins c i s → Begins (ending_with desk slots later c) i s
+begins_end c desk slots later i s b = record { anew = b.anew; resumed = b.resumed }
+
+pub searched_end : (c : Call) (desk : Option Told) (slots : Option SlotsTold) (later : List Moment) (i : Instance) (s : Start) (m : Option SlotsTold) (mid : List Moment) → IsSearched c i s m mid
+    → IsSearched (ending_with desk slots later c) i s m mid
+searched_end c desk slots later i s m mid x = record { saved = x.saved; go_on = x.go_on; slots = x.slots }
+
+-- ---- the last body
+
+body_on : (words : List Text) (w : Solve) (i : Instance) (s : Start) (body : Proof) → SaysSolve words w → IsBodyOn i w.budget w.gap s body → IsBodyOn i (budget_of words) (gap_of words) s body
+body_on words w i s body says on = subst (λ (g : ℕ). IsBodyOn i (budget_of words) g s body) says.gap (subst (λ (k : ℕ). IsBodyOn i k w.gap s body) says.budget on)
+
+pub unsaved_end : (c : Call) (w : Solve) (i : Instance) (s : Start) (bytes printed : List ℕ) (mid : List Moment) (m : Option SlotsTold) → SaysSolve c.words w → IsBodyOf i w.budget w.gap s bytes printed
+    → BothTell (ReadsInstance (instance_word c.words) i) c.before.desk c.after.desk → Begins c i s → IsSearched c i s m mid → BothTell (Breaks ChangesTarget) m c.after.slots
+    → BothTell (λ t u. Since (LoadsAsOr (moment_of t) bytes) mid c.after.moments u) m c.after.slots → Solves status.StoreFault c
+unsaved_end c w i s bytes printed mid m says is read begins done breaks crash =
+    save_failed c i s done.saved is.body read begins (body_on c.words w i s is.body says is.stopped.on_the_way, done.go_on)
+    (last_failed (restart_word c.words) done.saved is.body c.before.moments mid c.after.moments c.before.slots m c.after.slots done.slots breaks
+    (subst (λ (x : List ℕ). BothTell (λ t u. Since (LoadsAsOr (moment_of t) x) mid c.after.moments u) m c.after.slots) is.is_text crash))
+
+pub saved_end : (c : Call) (w : Solve) (i : Instance) (s : Start) (bytes printed : List ℕ) (mid : List Moment) (m : Option SlotsTold) (is : IsBodyOf i w.budget w.gap s bytes printed)
+    (done : IsSearched c i s m mid) → BothTell (λ t u. u ≡ after_save bytes (settled t)) m c.after.slots → BothTell (λ t u. Since (LoadsAsOr (moment_of t) bytes) mid c.after.moments u) m c.after.slots
+    → WhereTold (λ t. loaded t ≡ Some bytes) c.after.slots → WhereTold (LoadsOnly (Some bytes)) c.after.slots → IsSaved c i s done.saved is.body
+saved_end c w i s bytes printed mid m is done written crash loads kept = record {
+  go_on = done.go_on;
+  slots = last_saved (restart_word c.words) done.saved is.body c.before.moments mid c.after.moments c.before.slots m c.after.slots done.slots
+      (subst (λ (x : List ℕ). BothTell (λ t u. u ≡ after_save x (settled t)) m c.after.slots) is.is_text written)
+      (subst (λ (x : List ℕ). BothTell (λ t u. Since (LoadsAsOr (moment_of t) x) mid c.after.moments u) m c.after.slots) is.is_text crash);
+  loads = subst (λ (x : List ℕ). WhereTold (λ t. loaded t ≡ Some x) c.after.slots) is.is_text loads;
+  kept = subst (λ (x : List ℕ). WhereTold (LoadsOnly (Some x)) c.after.slots) is.is_text kept;
+}

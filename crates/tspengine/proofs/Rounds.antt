@@ -1,6 +1,7 @@
 -- Rounds of a search, and what they save.
-use Rattle.std.proofs.Common.{◌≡◌, ℕ, ◌+◌, ◌-◌, ◌*◌, ◌<◌, ◌≤◌, List, [], ◌∷◌, length, refl, sym, ap, subst, ◌∙◌, ◌⊎◌, inl, inr, Option, Err, arith}
+use Rattle.std.proofs.Common.{◌≡◌, ℕ, ◌+◌, ◌-◌, ◌*◌, ◌<◌, ◌≤◌, List, [], ◌∷◌, length, refl, sym, ap, subst, ◌∙◌, ◌⊎◌, inl, inr, Option, Result, Ok, Err, arith}
 use Rattle.std.specs.List.{AllByRecursion}
+use Rattle.std.specs.Prelude.{IsErrAnd}
 use Rattle.ports.specs.Outside.{BothTell}
 use Rattle.ports.specs.Slots.{SlotsTold}
 use Rattle.ports.specs.Crash.{Moment, Since, moment_of}
@@ -151,6 +152,15 @@ pub stopped_by : (first b : Book) → IsSameStart first b → (h : Halt) (past m
     → (h ≡ halt.StoreFault → BothTell (FailsToSave b mid later) m u) → (h ≡ halt.NoMemory → BothTell (KeepsSlots mid later) m u) → BothTell (Searches (Err h) first past later) s u
 stopped_by first b same halt.StoreFault past mid later s m u some failed kept = until first b same past mid later s m u some (failed refl)
 stopped_by first b same halt.NoMemory past mid later s m u some failed kept = kept_on first past mid later s m u some (kept refl)
+
+-- the error that is passed on
+pub told_on : (r : Result Book Halt) (h : Halt) → IsErrAnd r (λ e. e ≡ h) → r ≡ Err h
+told_on (Ok b) h is = absurd is
+told_on (Err e) h is = ap Err is
+
+pub err_is : (r : Result Book Halt) (h k : Halt) → IsErrAnd r (λ e. e ≡ h) → r ≡ Err k → h ≡ k
+err_is (Ok b) h k is was = absurd is
+err_is (Err e) h k is was = cc (is, was)
 
 -- ---- turns in a search
 

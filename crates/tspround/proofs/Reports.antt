@@ -1,5 +1,6 @@
 -- Reports of a sure worker, and what taking them does.
-use Rattle.std.proofs.Common.{ℕ, ◌<◌, ◌≤◌, List, None, refl, subst}
+use Rattle.std.proofs.Common.{ℕ, ◌<◌, ◌≤◌, List, None, refl, subst, arith}
+use Rattle.std.proofs.lemmas.Int.{ints}
 use Rattle.tspdef.specs.Instances.{Instance}
 use Rattle.tspdef.specs.Paths.{Condition}
 use Rattle.branchx.specs.declared.branch.Branch.TheVariants as branch
@@ -10,19 +11,13 @@ use Rattle.treebook.specs.Tables.{IsOpen, MaySplit, path_at, tree_of}
 use Rattle.treebook.specs.Tree.{branch_of}
 use Rattle.treebook.specs.Laws.{OpenNodesAreOpenLeaves, ClosingKeepsTables, SplittingKeepsTables}
 use Rattle.bossx.specs.declared.brought.Brought.TheVariants.{Plain}
-use Rattle.bossx.specs.declared.events.Event.TheVariants as event
-use Rattle.bossx.specs.declared.events.Reply.TheVariants as heard
-use Rattle.bossx.specs.declared.replies.Reported.TheVariants.{Taken}
 use Rattle.bossx.specs.Books.{Book, level, path_in, taken}
 use Rattle.bossx.specs.Judging.{BranchFits, ReportFits, Suffices, MayBeTaken}
-use Rattle.bossx.specs.Steps.{own_taken}
 use Rattle.bossx.specs.Kept.{IsTreeOf}
-use Rattle.bossx.specs.Laws.{StepsHaveNoChoice}
 use Rattle.worker.specs.Splits.{Splits, StayForMore}
 use Rattle.worker.specs.Works.{IsReport, SplitsOnly}
 use Rattle.tspround.specs.Splits.{kinds_of}
 use Rattle.tspround.specs.Alone.{IsSplitBy, HasProperSet, report_over}
-use Rattle.tspround.specs.Laws.{SureWorkIsTaken}
 use Rattle.tspround.proofs.Growing.{closing_grows, splitting_grows}
 
 -- ---- they are taken
@@ -50,10 +45,10 @@ may_be_taken b node r is_open left is = record {
   suffices = report_suffices b node r is;
 }
 
-pub sure_work_taken : StepsHaveNoChoice → SureWorkIsTaken
-sure_work_taken no_choice b new node r reply is_open left is step =
-    let over = report_over b.instance.n r in
-    no_choice b new (taken b None node (Plain over)) (event.Own node over) reply (heard.Reported Taken) step (own_taken node over (may_be_taken b node r is_open left is))
+-- what suffices for a length does for a shorter one
+pub report_lower : (i : Instance) (path : List Condition) (l m : ℕ) (r : Report) → m ≤ l → IsReport i path l r → IsReport i path m r
+report_lower i path l m (content.Closed c) le is = record { fits = is.fits; exceeds = let e = is.exceeds in omega (arith, ints) }
+report_lower i path l m (content.Split b) le is = is
 
 -- ---- and the tree grows
 

@@ -1,7 +1,6 @@
 -- Events in turn, and what they leave.
 use Rattle.std.proofs.Common.{ℕ, ◌+◌, ◌<◌, ◌≤◌, Option, Some, None, List, [], ◌∷◌, ◌++◌, refl, sym, ◌∙◌, subst, arith, ⊎_elim, ◌⊎◌}
 use Rattle.std.proofs.lemmas.Bool.Decides.{nat_tests}
-use Rattle.std.specs.List.{AllByRecursion}
 use Rattle.tspdef.specs.Instances.{Instance, IsTourOf, length_in}
 use Rattle.pricer.specs.declared.closing.Report.{Report}
 use Rattle.bossx.specs.declared.brought.Brought.TheVariants.{Plain}
@@ -15,11 +14,12 @@ use Rattle.bossx.specs.declared.replies.Offered.{Offered}
 use Rattle.bossx.specs.declared.replies.Offered.TheVariants.{NotShorter, Better}
 use Rattle.bossx.specs.Books.{Book, best_length, taken, with_best}
 use Rattle.bossx.specs.Judging.{MayBeTaken}
-use Rattle.bossx.specs.Steps.{Step, own_taken, offer_not_shorter, offer_better, Run, run_ends, run_goes_on}
+use Rattle.bossx.specs.declared.replies.Front.TheVariants as fronts
+use Rattle.bossx.specs.Steps.{Step, own_taken, offer_not_shorter, offer_better, Run, run_ends, run_goes_on, IsInFront}
 use Rattle.bossx.specs.Laws.{IsSameStart, StepsHaveNoChoice}
 use Rattle.worker.specs.Splits.{Splits}
 use Rattle.worker.specs.Works.{best_after}
-use Rattle.tspround.specs.Alone.{IsOwn, IsOwnRun, IsSplitBy, IsOffered, IsReported, IsTurn, IsSoFar}
+use Rattle.tspround.specs.Alone.{IsOwn, AllOwn, IsOwnRun, IsSplitBy, IsOffered, IsReported, IsTurn, IsSoFar}
 
 -- ---- runs
 
@@ -28,16 +28,18 @@ run_append b mid new es fs rs ss (run_ends b') rest = rest
 run_append b mid new es fs rs ss (run_goes_on b' next mid' e r es' rs' s more) rest =
     run_goes_on b next new e r (es' ++ fs) (rs' ++ ss) s (run_append next mid new es' fs rs' ss more rest)
 
-own_append : (es fs : List Event) → AllByRecursion IsOwn es → AllByRecursion IsOwn fs → AllByRecursion IsOwn (es ++ fs)
-own_append [] fs a b = b
-own_append (e ∷ es) fs a b = (a.0, own_append es fs a.1 b)
+own_append : (b mid new : Book) (es fs : List Event) (rs ss : List Reply) (p : Run b es rs mid) (q : Run mid fs ss new) → AllOwn b es rs mid p → AllOwn mid fs ss new q
+    → AllOwn b (es ++ fs) (rs ++ ss) new (run_append b mid new es fs rs ss p q)
+unfolding run_append
+own_append b mid new es fs rs ss (run_ends b') q a c = c
+own_append b mid new es fs rs ss (run_goes_on b' next mid' e r es' rs' s more) q a c = (a.0, own_append next mid new es' fs rs' ss more q a.1 c)
 
 -- nothing happens
 pub no_run : (b : Book) → IsOwnRun b b
 no_run b = record { events = []; replies = []; run = run_ends b; own = tt }
 
 -- one event
-one_event : (b new : Book) (e : Event) (r : Reply) → IsOwn e → Step b e r new → IsOwnRun b new
+one_event : (b new : Book) (e : Event) (r : Reply) → IsOwn b e → Step b e r new → IsOwnRun b new
 one_event b new e r o s = record { events = e ∷ []; replies = r ∷ []; run = run_goes_on b new new e r [] [] s (run_ends new); own = (o, tt) }
 
 -- one run after another
@@ -46,7 +48,7 @@ run_then b mid new p q = record {
   events = p.events ++ q.events;
   replies = p.replies ++ q.replies;
   run = run_append b mid new p.events q.events p.replies q.replies p.run q.run;
-  own = own_append p.events q.events p.own q.own;
+  own = own_append b mid new p.events q.events p.replies q.replies p.run q.run p.own q.own;
 }
 
 -- ---- the start
@@ -99,9 +101,10 @@ offers_some no_choice b new t reply is step =
 
 -- ---- reports
 
-pub reports : StepsHaveNoChoice → (b new : Book) (node : ℕ) (r : Report) (reply : Reported) → MayBeTaken b node (Plain r) → Step b (event.Own node r) (heard.Reported reply) new → IsReported node r b new
-reports no_choice b new node r reply may step = record {
-  run = one_event b new (event.Own node r) (heard.Reported reply) tt step;
+pub reports : StepsHaveNoChoice → (b new : Book) (node : ℕ) (r : Report) (reply : Reported) → IsInFront b (fronts.Node node) → MayBeTaken b node (Plain r)
+    → Step b (event.Own node r) (heard.Reported reply) new → IsReported node r b new
+reports no_choice b new node r reply front may step = record {
+  run = one_event b new (event.Own node r) (heard.Reported reply) front step;
   taken = (no_choice b new (taken b None node (Plain r)) (event.Own node r) (heard.Reported reply) (heard.Reported Taken) step (own_taken node r may)).1;
 }
 

@@ -1,21 +1,29 @@
 -- A turn: a tour is offered, and then a report is taken.
-use Rattle.std.proofs.Common.{◌≡◌, ℕ, ◌-◌, ◌<◌, Option, None, List, sym, subst, ap, ◌∙◌, arith}
-use Rattle.tspdef.specs.Instances.{Instance}
+use Rattle.std.proofs.Common.{◌≡◌, ℕ, ◌-◌, ◌<◌, ◌≤◌, Option, Some, None, List, sym, subst, ap, ◌∙◌, arith}
+use Rattle.std.specs.Prelude.{IfSome}
+use Rattle.tspdef.specs.Instances.{Instance, IsTourOf}
 use Rattle.branchx.specs.Path.{Conditions}
 use Rattle.pricer.specs.declared.closing.Report.{Report}
 use Rattle.treebook.specs.Tree as trees
-use Rattle.treebook.specs.Tables.{IsOpen, path_at, tree_of}
+use Rattle.treebook.specs.Tables.{IsOpen, IsLeastOpen, path_at, tree_of}
 use Rattle.treebook.specs.Laws.{OpenNodesAreOpenLeaves, ClosingKeepsTables, SplittingKeepsTables}
 use Rattle.bossx.specs.declared.brought.Brought.TheVariants.{Plain}
 use Rattle.bossx.specs.Books.{Book, Start, best_length, path_in, taken}
+use Rattle.bossx.specs.declared.events.Event.TheVariants as event
+use Rattle.bossx.specs.declared.events.Reply.TheVariants as heard
+use Rattle.bossx.specs.declared.replies.Front.TheVariants as fronts
+use Rattle.bossx.specs.declared.replies.Reported.TheVariants.{Taken}
 use Rattle.bossx.specs.Judging.{MayBeTaken}
+use Rattle.bossx.specs.Steps.{IsInFront, own_taken}
+use Rattle.bossx.specs.Laws.{StepsHaveNoChoice}
 use Rattle.bossx.specs.Kept.{IsBook, IsTreeOf}
 use Rattle.worker.specs.Splits.{Splits, StayForMore}
 use Rattle.worker.specs.Works.{IsReport, SplitsOnly, best_after}
 use Rattle.tspround.specs.Splits.{SplitSince}
 use Rattle.tspround.specs.Alone.{IsOffered, IsReported, IsSplitBy, IsTurn, report_over}
-use Rattle.tspround.proofs.Reports.{may_be_taken, over_splits, only_more, taking_grows}
-use Rattle.tspround.proofs.Runs.{turn_of}
+use Rattle.tspround.specs.Laws.{IsOffer, SureWorkIsTaken}
+use Rattle.tspround.proofs.Reports.{may_be_taken, report_lower, over_splits, only_more, taking_grows}
+use Rattle.tspround.proofs.Runs.{offers_none, offers_some, turn_of}
 
 -- what an offer does not change
 moved : (b mid : Book) (tour : Option (List ℕ)) → IsOffered tour b mid → (P : Instance → trees.Table → Start → ℕ → Type 0)
@@ -47,6 +55,14 @@ only_at S i b path best gap node r same on long miss is =
     (subst (λ (m : ℕ). SplitsOnly S i path.conditions m r b.gap) long
     (subst (λ (m : ℕ). SplitsOnly S i path.conditions best r m) miss is)))
 
+-- the node in front still is once a tour is offered
+pub still_in_front : (b mid : Book) (tour : Option (List ℕ)) (node : ℕ) → IsOffered tour b mid → IsInFront b (fronts.Node node) → IsInFront mid (fronts.Node node)
+still_in_front b mid tour node o front =
+    let same = o.settled in
+    let budget = o.start.budget in
+    let left = front.0 in
+    (omega (arith, same, budget, left), moved b mid tour o (λ i t s gap. IsLeastOpen t.nodes node) front.1)
+
 -- a sure worker's report may be taken once its tour is offered
 pub taken_after_offer : (b mid : Book) (tour : Option (List ℕ)) (node : ℕ) (r : Report) → IsOffered tour b mid → IsOpen b.tree.nodes node → b.settled < b.budget
     → IsReport b.instance (path_in b node) (best_after b.instance (best_length b) tour - b.gap) r → MayBeTaken mid node (Plain (report_over mid.instance.n r))
@@ -57,6 +73,24 @@ taken_after_offer b mid tour node r o is_open left is =
     let at = moved b mid tour o (λ i t s gap. IsReport i (path_at t.fixed t.nodes node) (most - gap) r) is in
     may_be_taken mid node r (moved b mid tour o (λ i t s gap. IsOpen t.nodes node) is_open) (omega (arith, same, budget, left))
     (subst (λ (m : ℕ). IsReport mid.instance (path_in mid node) (m - mid.gap) r) (sym o.best) at)
+
+-- the lesser of two lengths is no longer where one of them is
+after_lower : (i : Instance) (best more gap : ℕ) (tour : Option (List ℕ)) → best ≤ more → best_after i best tour - gap ≤ best_after i more tour - gap
+after_lower i best more gap None le = omega arith
+after_lower i best more gap (Some t) le = omega arith
+
+offered_by : StepsHaveNoChoice → (b mid : Book) (tour : Option (List ℕ)) → IfSome tour (IsTourOf b.instance) → IsOffer b tour mid → IsOffered tour b mid
+offered_by no_choice b mid None is e = subst (IsOffered None b) (sym e) (offers_none b)
+offered_by no_choice b mid (Some t) is p = offers_some no_choice b mid t p.0 is p.1
+
+pub sure_work_taken : StepsHaveNoChoice → SureWorkIsTaken
+sure_work_taken no_choice b mid new node best w reply ready le is offer step =
+    let o = offered_by no_choice b mid w.tour is.is_tour offer in
+    let over = report_over b.instance.n w.report in
+    let lower = report_lower b.instance (path_in b node) (best_after b.instance best w.tour - b.gap) (best_after b.instance (best_length b) w.tour - b.gap) w.report
+    (after_lower b.instance (best_length b) best b.gap w.tour le) is.report in
+    let may = subst (λ (i : Instance). MayBeTaken mid node (Plain (report_over i.n w.report))) o.start.instance (taken_after_offer b mid w.tour node w.report o ready.is_open ready.left lower) in
+    no_choice mid new (taken mid None node (Plain over)) (event.Own node over) reply (heard.Reported Taken) step (own_taken node over may)
 
 -- and keeps that each split is one that may be
 turn_splits : OpenNodesAreOpenLeaves → ClosingKeepsTables → SplittingKeepsTables → (S : Splits) → StayForMore S → (b mid : Book) (tour : Option (List ℕ)) (node : ℕ) (r : Report)

@@ -1,6 +1,5 @@
 -- What one worker does to a boss's book.
 use Rattle.std.specs.Prelude.{◌≡◌, ℕ, ◌+◌, ◌≤◌, ◌⊎◌, List, Option, None}
-use Rattle.std.specs.List.{AllByRecursion}
 use Rattle.tspdef.specs.Sets.{IsProper}
 use Rattle.cyc.specs.CitySet.{Members}
 use Rattle.branchx.specs.declared.branch.Branch.TheVariants as branch
@@ -11,8 +10,9 @@ use Rattle.bossx.specs.declared.brought.Brought.TheVariants.{Plain}
 use Rattle.bossx.specs.declared.events.Event.{Event}
 use Rattle.bossx.specs.declared.events.Event.TheVariants as event
 use Rattle.bossx.specs.declared.events.Reply.{Reply}
+use Rattle.bossx.specs.declared.replies.Front.TheVariants as fronts
 use Rattle.bossx.specs.Books.{Book, best_length, taken}
-use Rattle.bossx.specs.Steps.{Run, count_open}
+use Rattle.bossx.specs.Steps.{Run, run_ends, run_goes_on, IsInFront, count_open}
 use Rattle.bossx.specs.Laws.{IsSameStart}
 use Rattle.worker.specs.Splits.{Splits}
 use Rattle.worker.specs.Works.{best_after}
@@ -22,21 +22,26 @@ use Rattle.tspround.specs.Splits.{SplitSince}
 abbrev pub IsSplitBy : Splits → Book → Type 0
 IsSplitBy S b = SplitSince S b.instance b.start.length b.gap (tree_of b.start.nodes) (tree_of b.tree.nodes)
 
--- a tour is offered, or the boss itself reports on a node
-abbrev pub IsOwn : Event → Type 0
-IsOwn (event.Ask grunt) = ⊥
-IsOwn (event.Report lease what) = ⊥
-IsOwn (event.Own node what) = Unit {0}
-IsOwn (event.Gone grunt) = ⊥
-IsOwn (event.Expire lease) = ⊥
-IsOwn (event.Offer tour) = Unit {0}
+-- a tour is offered, or the boss itself reports on the node that is in front: the open one with the least number
+abbrev pub IsOwn : Book → Event → Type 0
+IsOwn b (event.Ask grunt) = ⊥
+IsOwn b (event.Report lease what) = ⊥
+IsOwn b (event.Own node what) = IsInFront b (fronts.Node node)
+IsOwn b (event.Gone grunt) = ⊥
+IsOwn b (event.Expire lease) = ⊥
+IsOwn b (event.Offer tour) = Unit {0}
 
--- events that lead from one book to another: tours that are offered, and reports of the boss itself
+-- each event is one of these where it comes
+abbrev pub AllOwn : (b : Book) (es : List Event) (rs : List Reply) (new : Book) → Run b es rs new → Type 0
+AllOwn b es rs new (run_ends b') = Unit {0}
+AllOwn b es rs new (run_goes_on b' mid new' e r es' rs' step rest) = IsOwn b' e × AllOwn mid es' rs' new rest
+
+-- events that lead from one book to another: tours that are offered, and reports of the boss itself on the node in front
 pub record IsOwnRun (b new : Book) : Type 0 where
   pub events : List Event
   pub replies : List Reply
   pub run : Run b events replies new
-  pub own : AllByRecursion IsOwn events
+  pub own : AllOwn b events replies new run
 
 -- No node is open, or the budget is spent, or as many nodes more are settled as there were to be turns.
 abbrev pub HasEnded : ℕ → Book → Book → Type 0

@@ -13,7 +13,7 @@ ghost use Rattle.tspround.specs.Laws.{SureWorkIsTaken, FewCitiesEnd};
 use bossx::events_have_no_choice;
 use worker::Worker;
 
-/// A sure worker's report is taken while its node is open and the budget is not spent, once the tour that it found is offered.
+/// What a sure worker reports is taken while its node is open and the budget is not spent, once the tour that it found is offered.
 pub fn sure_work_is_taken()
     ensures { SureWorkIsTaken }
 {

@@ -14,3 +14,5 @@ pub use laws::{few_cities_end, nothing_is_split_at_the_start, splits_stay, sure_
 pub use searching::{alone, alone_counted};
 pub use worker::Effort;
 
+#[cfg(test)]
+mod tests;

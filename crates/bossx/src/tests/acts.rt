@@ -1,4 +1,7 @@
 //! Bosses over the square, and events that are written in short.
+ghost use Rattle.std.specs.Prelude.{IsTrue};
+ghost use Rattle.tspdef.specs.Instances.{IsTourOf};
+ghost use Rattle.bossx.specs.Steps.{IsCall};
 
 use crate::tours::first_off;
 use crate::{Asked, Boss, Brought, Event, Reply};
@@ -13,7 +16,7 @@ use treebook::Tree;
 use tspinst::{Instance, from_points};
 
 /// An event on the square. Duals of cities are all the same.
-#[derive(Clone, Copy, Debug, Drop)]
+#[derive(Clone, Copy)]
 pub(super) enum Act {
     Ask(u32),
     /// A split for a lease.
@@ -58,6 +61,19 @@ pub(super) fn tour(alloc: Global, cities: &[u32]) -> Result<Tour, Fail> {
     Ok(Tour::new(alloc, cities.len() as u32, Vec::from_slice(alloc, cities)?)?)
 }
 
+/// Whether a tour has the cities and the fixed pairs of an instance.
+fn is_tour_of(instance: &Instance, tour: &Tour) -> bool
+    ensures { IsTrue result → IsTourOf instance.now tour.now }
+{
+    if tour.n() != instance.n() {
+        return false;
+    }
+    match first_off(tour.cities(), instance.fixed()) {
+        Some(_) => false,
+        None => true,
+    }
+}
+
 /// A boss over the tree of one open node.
 pub(super) fn boss(
     alloc: Global,
@@ -67,10 +83,10 @@ pub(super) fn boss(
     grunts: u32,
     gap: u64,
 ) -> Result<Boss, Fail> {
-    if budget > 1000 || grunts < 1 || grunts > 64 {
+    if budget > 500_000 || grunts < 1 || grunts > 64 {
         return Err("too many".into());
     }
-    if best.n() != instance.n() || first_off(best.cities(), instance.fixed()).is_some() {
+    if !is_tour_of(instance, &best) {
         return Err("no tour of the instance".into());
     }
     let tree = Tree::with_fixed(alloc, instance.n(), instance.fixed())?;
@@ -146,12 +162,24 @@ fn event(alloc: Global, act: Act) -> Result<Event, Fail> {
     })
 }
 
+/// Whether a grunt that asks is one of the boss's.
+fn is_call(boss: &Boss, event: &Event) -> bool
+    ensures { IsTrue result → IsCall boss.now.grunts event.now }
+{
+    match event {
+        Event::Ask(grunt) => 1 <= *grunt && *grunt <= boss.grunts(),
+        Event::Report(_, _)
+        | Event::Own(_, _)
+        | Event::Gone(_)
+        | Event::Expire(_)
+        | Event::Offer(_) => true,
+    }
+}
+
 /// What a boss replies to an event. A grunt that asks has to be one of the boss's.
 pub(super) fn reply(boss: &mut Boss, event: Event) -> Result<Reply, Fail> {
-    if let Event::Ask(grunt) = &event {
-        if *grunt < 1 || *grunt > boss.grunts() {
-            return Err("no such grunt".into());
-        }
+    if !is_call(boss, &event) {
+        return Err("no such grunt".into());
     }
     Ok(boss.act(event))
 }

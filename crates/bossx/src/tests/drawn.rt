@@ -1,5 +1,6 @@
 //! Lists of drawn events, each played by the boss and by the plain book: wrong leases, reports that are late or come twice, wrong
 //! paths, another instance's closings, weak ones and such that do not fit.
+ghost use Rattle.std.specs.Prelude.{◌<◌, ◌≤◌};
 
 use super::acts::{boss, reply, tour};
 use super::plain::{
@@ -26,13 +27,18 @@ struct Draw {
 }
 
 impl Draw {
-    /// A number below another.
-    fn below(&mut self, most: u32) -> u32 {
+    /// A number below another, or 0 where there is none.
+    fn below(&mut self, most: u32) -> u32
+        ensures { 1 ≤ most → result < most }
+    {
+        if most == 0 {
+            return 0;
+        }
         self.state = self
             .state
             .wrapping_mul(6_364_136_223_846_793_005)
             .wrapping_add(1_442_695_040_888_963_407);
-        ((self.state >> 33) % u64::from(most.max(1))) as u32
+        ((self.state >> 33) % u64::from(most)) as u32
     }
 
     fn one_of(&mut self, most: u32) -> bool {
@@ -41,7 +47,7 @@ impl Draw {
 }
 
 /// An event with its data.
-#[derive(Clone, Copy, Debug, Drop)]
+#[derive(Drop)]
 enum Case {
     Ask(u32),
     Report(u32, Said),
@@ -56,7 +62,7 @@ enum Case {
 }
 
 /// What is answered, by the boss or the plain book.
-#[derive(Clone, Copy, PartialEq, Eq, Debug, Drop)]
+#[derive(Clone, Copy, PartialEq, Eq)]
 enum Heard {
     Replied(Reply),
     /// A closing that does not fit where it was priced: there is nothing to report.
@@ -183,21 +189,31 @@ fn draw_said(draw: &mut Draw) -> Said {
 }
 
 fn draw_tour(draw: &mut Draw) -> [u32; 5] {
-    let mut cities = [0, 1, 2, 3, 4];
+    let mut cities = [0u32, 1, 2, 3, 4];
     for k in 0..5usize {
         let other = draw.below(5) as usize;
-        if other < 5 {
-            cities.swap(k, other);
-        }
+        cities.swap(k, other);
     }
     cities
 }
 
 /// The node of a lease in the plain book, or at times another.
 fn draw_node(draw: &mut Draw, plain: &PlainBook, lease: u32) -> u32 {
+    if draw.one_of(4) {
+        return draw.below(number(plain.nodes.len()));
+    }
     match plain.leases.get(lease as usize) {
-        Some(lease) if !draw.one_of(4) => lease.node,
-        _ => draw.below(number(plain.nodes.len())),
+        Some(found) => found.node,
+        None => draw.below(number(plain.nodes.len())),
+    }
+}
+
+/// A tour of the five cities, or at times of four.
+fn draw_offer(draw: &mut Draw) -> Case {
+    if draw.one_of(8) {
+        Case::Offer([0, 1, 2, 3, 4], 4)
+    } else {
+        Case::Offer(draw_tour(draw), 5)
     }
 }
 
@@ -217,8 +233,7 @@ fn draw_case(draw: &mut Draw, plain: &PlainBook) -> Case {
         15 => Case::Own(draw.below(number(plain.nodes.len())), draw_said(draw)),
         16 => Case::Gone(draw.below(5)),
         17 => Case::Expire(lease),
-        18 if draw.one_of(4) => Case::Offer([0, 1, 2, 3, 4], 4),
-        _ => Case::Offer(draw_tour(draw), 5),
+        _ => draw_offer(draw),
     }
 }
 
@@ -386,35 +401,45 @@ fn plain_plays(alloc: Global, plain: &mut PlainBook, case: &Case) -> Result<Hear
 
 // ---- comparing
 
-/// What both books count: grants, held and lost leases, settled, open and all nodes, the best length, and the front.
-type Counts = (u32, u32, u32, u32, u32, u32, u64, Front);
+/// What both books count.
+#[derive(Clone, Copy, PartialEq, Eq)]
+struct Counts {
+    grants: u32,
+    held: u32,
+    lost: u32,
+    settled: u32,
+    open: u32,
+    nodes: u32,
+    best: u64,
+    front: Front,
+}
 
 fn boss_counts(boss: &Boss) -> Counts {
     let leases = boss.leases();
     let (_, tree) = boss.snapshot();
-    (
-        leases.grants(),
-        leases.held(),
-        leases.lost(),
-        boss.settled(),
-        tree.open_nodes(),
-        tree.nodes(),
-        boss.best_length(),
-        boss.front(),
-    )
+    Counts {
+        grants: leases.grants(),
+        held: leases.held(),
+        lost: leases.lost(),
+        settled: boss.settled(),
+        open: tree.open_nodes(),
+        nodes: tree.nodes(),
+        best: boss.best_length(),
+        front: boss.front(),
+    }
 }
 
 fn plain_counts(plain: &PlainBook) -> Counts {
-    (
-        number(plain.leases.len()),
-        plain.count(Fate::Held),
-        plain.count(Fate::Lost),
-        plain.settled,
-        plain.open_count(),
-        number(plain.nodes.len()),
-        plain.best,
-        plain.front(),
-    )
+    Counts {
+        grants: number(plain.leases.len()),
+        held: plain.count(Fate::Held),
+        lost: plain.count(Fate::Lost),
+        settled: plain.settled,
+        open: plain.open_count(),
+        nodes: number(plain.nodes.len()),
+        best: plain.best,
+        front: plain.front(),
+    }
 }
 
 fn bits(set: &CitySet) -> u32 {
@@ -455,7 +480,7 @@ fn same_paths(alloc: Global, boss: &Boss, plain: &PlainBook) -> Result<bool, Fai
 }
 
 /// What a list begins with.
-#[derive(Clone, Copy, Drop)]
+#[derive(Drop)]
 struct Start {
     fixed: Option<(u32, u32)>,
     budget: u32,
@@ -489,12 +514,12 @@ fn pair_of(alloc: Global, fixed: Option<(u32, u32)>) -> Result<Pair, Fail> {
     Ok(Pair { own, other })
 }
 
-fn boss_of(alloc: Global, pair: &Pair, start: Start) -> Result<Boss, Fail> {
+fn boss_of(alloc: Global, pair: &Pair, start: &Start) -> Result<Boss, Fail> {
     let best = tour(alloc, &OPENING)?;
     boss(alloc, &pair.own, best, start.budget, 3, start.gap)
 }
 
-fn both_of(alloc: Global, start: Start) -> Result<Both, Fail> {
+fn both_of(alloc: Global, start: &Start) -> Result<Both, Fail> {
     let pair = pair_of(alloc, start.fixed)?;
     let boss = boss_of(alloc, &pair, start)?;
     let length = tour_length(&OPENING);
@@ -536,7 +561,7 @@ fn plays_alike(alloc: Global, list: u32, tally: &mut Tally) -> Result<bool, Fail
     let mut draw = Draw {
         state: u64::from(list).wrapping_mul(0x9e37_79b9_7f4a_7c15),
     };
-    let mut both = both_of(alloc, draw_start(&mut draw))?;
+    let mut both = both_of(alloc, &draw_start(&mut draw))?;
     if both.first_difference(alloc, &mut draw, tally)?.is_some() {
         return Ok(false);
     }

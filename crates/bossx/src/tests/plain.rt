@@ -15,7 +15,7 @@ const GREATEST: i128 = 4_611_686_018_427_387_904;
 const ALL: u32 = 31;
 
 /// A condition of a path.
-#[derive(Clone, Copy, PartialEq, Eq, Debug, Drop)]
+#[derive(Clone, Copy, PartialEq, Eq)]
 pub(super) enum Told {
     Fixed(u32, u32),
     Absent(u32, u32),
@@ -25,7 +25,7 @@ pub(super) enum Told {
 }
 
 /// Duals: of the first so many cities, of a subtour cut of a set of so many cities, which comes so often, and of conditions by depth.
-#[derive(Clone, Copy, Debug, Drop)]
+#[derive(Clone, Copy)]
 pub(super) struct Duals {
     pub city: [i64; 6],
     pub cities: usize,
@@ -38,7 +38,7 @@ pub(super) struct Duals {
 }
 
 /// What is said of a node.
-#[derive(Clone, Copy, Debug, Drop)]
+#[derive(Drop)]
 pub(super) enum Said {
     Edge(u32, u32),
     /// A set of so many cities.
@@ -46,14 +46,14 @@ pub(super) enum Said {
     Closed(Duals),
 }
 
-#[derive(Clone, Copy, PartialEq, Eq, Debug, Drop)]
+#[derive(Clone, Copy, PartialEq, Eq)]
 pub(super) enum Fate {
     Held,
     Settled,
     Lost,
 }
 
-#[derive(Clone, Copy, Debug, Drop)]
+#[derive(Drop)]
 pub(super) struct PlainLease {
     pub grunt: u32,
     pub node: u32,
@@ -335,7 +335,7 @@ impl PlainBook {
         let mut first: Option<(u32, i64)> = None;
         let mut k = 0u32;
         for node in &self.nodes {
-            if node.open && !self.is_held(k) && first.is_none_or(|f| node.key < f.1) {
+            if node.open && comes_before(node.key, &first) && !self.is_held(k) {
                 first = Some((k, node.key));
             }
             k = k.saturating_add(1);
@@ -578,6 +578,14 @@ impl PlainBook {
             key,
         })?;
         Ok(())
+    }
+}
+
+/// Whether a key is less than that of the first node so far.
+fn comes_before(key: i64, first: &Option<(u32, i64)>) -> bool {
+    match first {
+        Some((_, least)) => key < *least,
+        None => true,
     }
 }
 

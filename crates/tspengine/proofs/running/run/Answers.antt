@@ -33,7 +33,7 @@ returns-in-Ok-Solve g c =
         store_faults = g.L.Slots.faults c.solve.new.slots;
       };
     } in
-    runs_so s call (ends_solve s call is (c.solve.ensures.ends call says)) (causes_solve s call is c.solve.ensures.reads c.solve.ensures.writes c.solve.ensures.store)
+    runs_so c.bodies_have_one_reading.ensures s call (ends_solve s call is (c.solve.ensures.ends call says)) (causes_solve s call is c.solve.ensures.reads c.solve.ensures.writes c.solve.ensures.store)
 
 pub returns-in-Ok-Verify : goal.returns-in-Ok-Verify
 returns-in-Ok-Verify g c =
@@ -61,7 +61,7 @@ returns-in-Ok-Verify g c =
       };
     } in
     let ends = c.verify.ensures.ends call says refl in
-    runs_so s call (ends_verify s call is ends) (causes_verify s call ends refl c.verify.ensures.reads c.verify.ensures.writes)
+    runs_so c.bodies_have_one_reading.ensures s call (ends_verify s call is ends) (causes_verify s call ends refl c.verify.ensures.reads c.verify.ensures.writes)
 
 pub returns-in-Ok-Tour : goal.returns-in-Ok-Tour
 returns-in-Ok-Tour g c =
@@ -89,7 +89,7 @@ returns-in-Ok-Tour g c =
       };
     } in
     let ends = c.tour.ensures.ends call says refl in
-    runs_so s call (ends_tour s call is ends) (causes_tour s call ends refl c.tour.ensures.reads c.tour.ensures.writes)
+    runs_so c.bodies_have_one_reading.ensures s call (ends_tour s call is ends) (causes_tour s call ends refl c.tour.ensures.reads c.tour.ensures.writes)
 
 pub returns-in-Ok-Bench : goal.returns-in-Ok-Bench
 returns-in-Ok-Bench g c =
@@ -117,7 +117,7 @@ returns-in-Ok-Bench g c =
       };
     } in
     let ends = c.bench.ensures.ends call says refl in
-    runs_so s call (ends_bench s call is ends) (causes_bench s call ends refl c.bench.ensures.reads c.bench.ensures.writes)
+    runs_so c.bodies_have_one_reading.ensures s call (ends_bench s call is ends) (causes_bench s call ends refl c.bench.ensures.reads c.bench.ensures.writes)
 
 pub returns-in-Err-Usage : goal.returns-in-Err-Usage
 returns-in-Err-Usage g c =
@@ -144,7 +144,7 @@ returns-in-Err-Usage g c =
     } in
     let ends = c.usage.ensures.ends call refl in
     let none : ¬ IsTaken words = c.in-Err-Usage.ensures.usage (ap Err c.in-Err-Usage.field-0-is) in
-    runs_so s call (ends_usage s call none ends) (causes_usage s call ends refl c.usage.ensures.same c.usage.ensures.writes)
+    runs_so c.bodies_have_one_reading.ensures s call (ends_usage s call none ends) (causes_usage s call ends refl c.usage.ensures.same c.usage.ensures.writes)
 
 pub returns-in-Err-NoMemory : goal.returns-in-Err-NoMemory
 returns-in-Err-NoMemory g c =
@@ -158,10 +158,16 @@ returns-in-Err-NoMemory g c =
     } in
     let call : Call = record { words = map string_bytes c.args.words.now; before = here; after = here } in
     let idle : IsIdle call = record { desk = refl; slots = refl; moments = refl; reads = refl; writes = refl; stores = refl } in
-    runs_so status.NoMemory call (ends_idle call c.taken_words_are_given.ensures.commands idle) (causes_idle call idle)
+    runs_so c.bodies_have_one_reading.ensures status.NoMemory call (ends_idle call c.taken_words_are_given.ensures.commands idle) (causes_idle call idle)
 
 pub bench-requires-clause-many : goal.bench-requires-clause-many
 bench-requires-clause-many g c = (subst (λ (x : Command). Says (map string_bytes c.args.words.now) x) c.in-Ok-Bench.field-0-is c.in-Ok-Bench.ensures.says).enough
 
 pub bench-requires-clause-few : goal.bench-requires-clause-few
 bench-requires-clause-few g c = (subst (λ (x : Command). Says (map string_bytes c.args.words.now) x) c.in-Ok-Bench.field-0-is c.in-Ok-Bench.ensures.says).fits
+
+pub bench-requires-clause-budget : goal.bench-requires-clause-budget
+bench-requires-clause-budget g c = (subst (λ (x : Command). Says (map string_bytes c.args.words.now) x) c.in-Ok-Bench.field-0-is c.in-Ok-Bench.ensures.says).few
+
+pub solve-requires : goal.solve-requires
+solve-requires g c = (subst (λ (x : Command). Says (map string_bytes c.args.words.now) x) c.in-Ok-Solve.field-0-is c.in-Ok-Solve.ensures.says).few

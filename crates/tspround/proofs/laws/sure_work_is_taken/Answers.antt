@@ -1,4 +1,4 @@
-use Rattle.tspround.proofs.Reports.{sure_work_taken}
+use Rattle.tspround.proofs.Turns.{sure_work_taken}
 use Rattle.tspround.proofs.laws.sure_work_is_taken.Goals as goal
 
 pub returns : goal.returns

@@ -7,16 +7,10 @@ use Rattle.bossx.specs.declared.replies.Offered.TheVariants.{OtherSize, OffFixed
 use Rattle.bossx.specs.Books.{Book, best_length, with_best}
 use Rattle.bossx.specs.BossInside.{book_of}
 use Rattle.bossx.specs.Steps.{Step, IsFirstOff, offer_other_size, offer_off_fixed, offer_not_shorter, offer_better}
+use Rattle.bossx.proofs.Offering.{tour_of}
 use Rattle.bossx.proofs.boss.Boss.offer.Goals as goal
 use Rattle.bossx.specs.declared.events.Event.TheVariants as event
 use Rattle.bossx.specs.declared.events.Reply.TheVariants as heard
-
--- a whole list of as many cities that has the fixed pairs is a tour
-tour_of : (i : Instance) (tour cities : List ℕ) (pairs : List (ℕ × ℕ)) → cities ≡ tour → pairs ≡ i.fixed → length tour ≡ i.n → IsWhole tour → AreSteps (steps cities) pairs → IsTourOf i tour
-tour_of i tour cities pairs same fixed n whole held = record {
-  is_tour = subst (λ (m : ℕ). IsTour m tour) n whole.is_tour;
-  holds_fixed = subst (λ (ps : List (ℕ × ℕ)). AreSteps (steps tour) ps) fixed (subst (λ (ts : List ℕ). AreSteps (steps ts) pairs) same held);
-}
 
 pub returns-then-n : goal.returns-then-n
 returns-then-n c =
