@@ -1,23 +1,23 @@
 -- The beginning of a search, and its end without rounds.
-use Rattle.std.proofs.Common.{◌≡◌, ℕ, ◌+◌, ◌*◌, ◌<◌, ◌≤◌, List, length, refl, sym, ap, subst, ◌∙◌, ◌⊎◌, inl, inr, Result, Ok, Err, IfOk, arith}
+use Rattle.std.proofs.Common.{◌≡◌, ℕ, ◌+◌, ◌*◌, ◌≤◌, List, length, refl, sym, ap, subst, ◌∙◌, ◌⊎◌, inl, inr, Result, Ok, Err, IfOk, arith}
 use Rattle.tspdef.specs.Instances.{Instance, length_in}
 use Rattle.tspdef.specs.Trees.{Tree, open_leaf, open_leaves}
-use Rattle.treebook.specs.Tables.{Node, tree_of}
+use Rattle.treebook.specs.Tables.{tree_of}
 use Rattle.treebook.specs.Tree as trees
 use Rattle.neigh.specs.Near.{Near}
 use Rattle.worker.specs.Splits.{IsNeededSplit}
 use Rattle.bossx.specs.Books as books
 use Rattle.bossx.specs.Books.{Book}
 use Rattle.bossx.specs.Kept.{IsBook, IsStart}
-use Rattle.bossx.specs.Laws.{IsSameStart, IsChargedFor}
+use Rattle.bossx.specs.Laws.{IsChargedFor}
 use Rattle.bossx.specs.declared.events.Reply.TheVariants as heard
 use Rattle.bossx.specs.declared.replies.Offered.{Offered}
 use Rattle.tspround.specs.Alone.{IsAlone, IsSplitBy}
 use Rattle.tspround.specs.Laws.{FewCitiesEnd}
 use Rattle.tspengine.specs.Starts.{Start, BeginsAnew}
-use Rattle.tspengine.specs.Searches.{start_in, IsSearch, IsSearchOf}
+use Rattle.tspengine.specs.Searches.{start_in}
 use Rattle.tspengine.specs.Rounds.{HasEnded}
-use Rattle.tspengine.specs.Begun.{IsSearchAt, IsFreshSearch, IsSearchFrom}
+use Rattle.tspengine.specs.Begun.{IsFreshSearch, IsSearchFrom}
 use Rattle.tspengine.specs.Benching.{IsFound, IsBenchOutcome}
 use Rattle.tspengine.specs.Outcomes.{IsOutcome}
 use Rattle.tspengine.specs.declared.starting.Search.{Search}

@@ -1,6 +1,6 @@
 -- What follows where nothing fails.
 use Rattle.std.proofs.Common.{◌≡◌, ℕ, List, sym, subst, ◌∙◌, inl, inr, Option, Some, None, Ok, true, arith, eq-eqb}
-use Rattle.std.specs.Prelude.{◌==◌, cond}
+use Rattle.std.specs.Prelude.{◌==◌}
 use Rattle.std.proofs.lemmas.Bool.{cond-true, cond-false, ne_eqb}
 use Rattle.ports.specs.Outside.{BothTell, WhereTold, Cause}
 use Rattle.ports.specs.Desk.{Told}

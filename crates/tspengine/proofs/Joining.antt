@@ -6,7 +6,7 @@ use Rattle.ports.specs.Slots.{SlotsTold, with_path}
 use Rattle.ports.specs.Crash.{Moment, Since, moment_of}
 use Rattle.clap.specs.Walk.{Text}
 use Rattle.tspdef.specs.Instances.{Instance}
-use Rattle.certdef.specs.Proofs.{Proof, text}
+use Rattle.certdef.specs.Proofs.{Proof}
 use Rattle.slotstore.specs.Store.{loaded, after_save, ChangesTarget}
 use Rattle.slotstore.specs.Crashing.{Breaks, LoadsAsOr, LoadsOnly, settled}
 use Rattle.slotstore.proofs.Leaving.{by_bytes_is}
@@ -123,7 +123,7 @@ pub failed_search : (c : Call) (w : Solve) (i : Instance) (b : Book) (mid : List
 failed_search c w i b mid m says of read begins is saves = elim (until_or b mid c.after.moments m c.after.slots saves) [
   | inl (e, f) ↦ load_failed c i read (untold (IsBegun (restart_word c.words) c.before.moments mid) (IsBegun (restart_word c.words) c.before.moments c.after.moments) c.before.slots m c.after.slots is e f)
   | inr (bodies, (body, (are, failed))) ↦ save_failed c i (start_in b) bodies body read begins (bodies_of c.words w i b (body ∷ bodies) says of are)
-  (failed_on (restart_word c.words) bodies body c.before.moments mid c.after.moments c.before.slots m c.after.slots is failed)
+      (failed_on (restart_word c.words) bodies body c.before.moments mid c.after.moments c.before.slots m c.after.slots is failed)
 ]
 
 -- ---- a search that does not go on

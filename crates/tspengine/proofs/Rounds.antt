@@ -1,6 +1,5 @@
 -- Rounds of a search, and what they save.
-use Rattle.std.proofs.Common.{◌≡◌, ℕ, ◌+◌, ◌-◌, ◌*◌, ◌<◌, ◌≤◌, List, [], ◌∷◌, length, refl, sym, ap, subst, ◌∙◌, ◌⊎◌, inl, inr, Option, Result, Ok, Err, arith}
-use Rattle.std.specs.List.{AllByRecursion}
+use Rattle.std.proofs.Common.{◌≡◌, ℕ, ◌+◌, ◌-◌, ◌*◌, ◌<◌, ◌≤◌, List, [], ◌∷◌, length, refl, sym, ap, subst, ◌∙◌, inl, inr, Option, Result, Ok, Err, arith}
 use Rattle.std.specs.Prelude.{IsErrAnd}
 use Rattle.ports.specs.Outside.{BothTell}
 use Rattle.ports.specs.Slots.{SlotsTold}
@@ -20,9 +19,9 @@ use Rattle.bossx.specs.Laws.{IsSameStart}
 use Rattle.tspround.specs.Splits.{SplitSince}
 use Rattle.tspround.specs.Alone.{IsAlone, IsSplitBy}
 use Rattle.tspengine.specs.Starts as starts
-use Rattle.tspengine.specs.Saves.{IsBodyOn, AreBodiesOn, HasSaved, HasFailed}
+use Rattle.tspengine.specs.Saves.{IsBodyOn}
 use Rattle.tspengine.specs.Searches.{start_in, IsSearch, IsTextOfBook}
-use Rattle.tspengine.specs.Rounds.{IsBodyFrom, AreBodiesFrom, IsFurther, KeepsSlots, SavesOne, FailsToSave, SavesSome, SavesUntil, Searches}
+use Rattle.tspengine.specs.Rounds.{IsBodyFrom, IsFurther, KeepsSlots, SavesOne, FailsToSave, SavesSome, SavesUntil, Searches}
 use Rattle.tspengine.specs.declared.starting.Halt.{Halt}
 use Rattle.tspengine.specs.declared.starting.Halt.TheVariants as halt
 use Rattle.tspengine.proofs.Storing.{none_saved, saved_more, failed_more, since_both}

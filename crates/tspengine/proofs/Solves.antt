@@ -1,6 +1,6 @@
 -- How a call of `solve` ends.
 use Rattle.std.proofs.Common.{◌≡◌, ◌≢◌, ℕ, ◌+◌, ◌<◌, ◌≤◌, List, [], ◌∷◌, take, refl, ap, sym, subst, ◌∙◌, ◌⊎◌, inl, inr, Option, Some, Bool, true, false, string_bytes, arith, eq-eqb}
-use Rattle.std.specs.Prelude.{◌==◌, cond, nat_lt}
+use Rattle.std.specs.Prelude.{◌==◌, nat_lt}
 use Rattle.std.proofs.lemmas.Bool.{cond-true, cond-false, ne_eqb, ltb-true, ltb-false}
 use Rattle.ports.specs.Outside.{BothTell, WhereTold}
 use Rattle.ports.specs.Desk.{Told, Adds}
@@ -9,10 +9,9 @@ use Rattle.ports.specs.declared.desk.Outlet.TheVariants as outlet
 use Rattle.clap.specs.Walk.{Text}
 use Rattle.tspdef.specs.Instances.{Instance, length_in}
 use Rattle.tspdef.specs.Trees.{open_leaves, settled as settled_nodes}
-use Rattle.tspinst.specs.Texts.{InstanceText}
 use Rattle.certdef.specs.Accepted.{IsAcceptedText, IsTextOf, tree_in}
-use Rattle.ports.specs.Crash.{Moment, Since, moment_of}
-use Rattle.slotstore.specs.Store.{loaded, after_save, ChangesTarget}
+use Rattle.ports.specs.Crash.{Since, moment_of}
+use Rattle.slotstore.specs.Store.{loaded}
 use Rattle.slotstore.specs.Crashing.{Breaks, LoadsAs, LoadsOnly, settled}
 use Rattle.certdef.specs.Proofs.{Proof, text}
 use Rattle.tspwords.specs.Program.{instance_word, proof_word, restart_word, budget_of, gap_of, resumes}
@@ -20,16 +19,16 @@ use Rattle.tspwords.specs.Says.{SaysSolve}
 use Rattle.tspwords.specs.declared.words.Solve.{Solve}
 use Rattle.verification.specs.Transfers.{ReadsInstance}
 use Rattle.verification.proofs.Tells.{both_to, both_then, both_same}
-use Rattle.tspengine.specs.Calls.{Call, DeskHad, SlotsMoved, SlotsPass}
+use Rattle.tspengine.specs.Calls.{Call, SlotsMoved}
 use Rattle.tspengine.specs.Steps.{reads, writes, prints, TearsWriting}
 use Rattle.tspengine.specs.Texts.{optimal_text, within_text, closed_text, stopped_text, restart_text}
 use Rattle.tspengine.specs.Starts.{Start, Begins}
-use Rattle.tspengine.specs.Saves.{AreBodiesOn, IsBodyOn, LoadsAsOrOneOf, after_saves}
-use Rattle.tspengine.specs.Outcomes.{IsProved, IsProofOf, IsBodyOf, IsStopped}
+use Rattle.tspengine.specs.Saves.{AreBodiesOn, IsBodyOn, after_saves}
+use Rattle.tspengine.specs.Outcomes.{IsProofOf, IsBodyOf, IsStopped}
 use Rattle.tspengine.specs.Headline.{Optimal, Within, Stopped}
 use Rattle.tspengine.specs.Readings.{Refuses, TornRefusal, Unread}
 use Rattle.verification.specs.Transfers.{TouchesInstance}
-use Rattle.tspengine.specs.Solving.{BadRestart, TornRestart, TornProof, TornStopped, Unsaved, Short, IsBegun, IsSearched, HasBroken, HasSavedOn, AreHandedIn, IsRefusedLoad, Solves, IsPublished, IsRefusedCall}
+use Rattle.tspengine.specs.Solving.{BadRestart, TornRestart, TornProof, TornStopped, Unsaved, Short, IsBegun, IsSearched, HasBroken, HasSavedOn, IsRefusedLoad, Solves, IsPublished, IsRefusedCall}
 use Rattle.tspengine.specs.declared.outcomes.Closed.{Closed}
 use Rattle.tspengine.specs.declared.statuses.Status.{Status}
 use Rattle.tspengine.specs.declared.statuses.Status.TheVariants as status

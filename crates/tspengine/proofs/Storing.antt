@@ -1,19 +1,18 @@
 -- The store of a call: bound, begun and saved to.
 use Rattle.std.proofs.Common.{◌≡◌, ℕ, List, [], ◌∷◌, ◌++◌, refl, sym, ap, subst, ◌∙◌, ◌⊎◌, inl, inr, Option, Some}
 use Rattle.std.specs.List.{AllByRecursion}
-use Rattle.ports.specs.Outside.{BothTell, WhereTold}
+use Rattle.ports.specs.Outside.{BothTell}
 use Rattle.ports.specs.Slots.{SlotsTold, with_path}
-use Rattle.ports.specs.Crash.{Moment, MayLeave, Since, moment_of}
+use Rattle.ports.specs.Crash.{Moment, Since, moment_of}
 use Rattle.certdef.specs.Proofs.{Proof, text}
 use Rattle.slotstore.specs.Store.{loaded, after_save, ChangesTarget}
-use Rattle.slotstore.specs.Crashing.{Breaks, IsSettled, LoadsAs, LoadsAsOr, MayLoad, settled}
+use Rattle.slotstore.specs.Crashing.{Breaks, LoadsAs, LoadsAsOr, MayLoad, settled}
 use Rattle.slotstore.proofs.Failing.{breaks_target}
 use Rattle.slotstore.proofs.Settling.{nothing_yet}
 use Rattle.slotstore.proofs.Told.{both_both}
 use Rattle.slotstore.proofs.Walks.{since_start, since_weaken, since_then}
-use Rattle.tspwords.specs.Program.{restart_word}
-use Rattle.verification.proofs.Tells.{both_to, both_then, both_same}
-use Rattle.tspengine.specs.Calls.{Call, SlotsMoved, SlotsPass}
+use Rattle.verification.proofs.Tells.{both_to, both_then}
+use Rattle.tspengine.specs.Calls.{Call, SlotsPass}
 use Rattle.tspengine.specs.Saves.{IsOneOf, LoadsAsOrOneOf, after_saves, HasSaved, HasFailed}
 use Rattle.tspengine.specs.Solving.{IsBegun, HasSavedOn, HasBroken}
 

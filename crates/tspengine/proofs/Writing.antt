@@ -1,18 +1,18 @@
 -- What is written of a search.
-use Rattle.std.proofs.Common.{◌≡◌, ℕ, ◌+◌, ◌-◌, ◌*◌, ◌<◌, ◌≤◌, List, [], ◌∷◌, ◌++◌, length, refl, sym, ap, subst, ◌∙◌, arith}
+use Rattle.std.proofs.Common.{◌≡◌, ℕ, ◌+◌, ◌-◌, ◌<◌, ◌≤◌, List, [], ◌∷◌, ◌++◌, length, refl, sym, ap, subst, ◌∙◌, arith}
 use Rattle.tspdef.specs.Tours.{IsCanonicalForm}
-use Rattle.tspdef.specs.Instances.{Instance, IsInstance, IsTourOf, length_in}
+use Rattle.tspdef.specs.Instances.{Instance, length_in}
 use Rattle.tspdef.specs.Paths.{Condition, root, absent, present, two, four}
 use Rattle.tspdef.specs.Closings.{Closing}
 use Rattle.tspdef.specs.Trees.{Tree, open_leaf, closed_leaf, edge_split, clique_split, IsSoundFor, Covers, open_leaves, settled}
 use Rattle.tspdef.specs.Laws.{AcceptedIsBelow, SameCycleIsSameTour, CanonicalFormIsOne}
 use Rattle.tspdef.proofs.Covering.{sound_below, root_obeyed}
-use Rattle.certdef.specs.Proofs.{Proof, text}
+use Rattle.certdef.specs.Proofs.{text}
 use Rattle.certdef.specs.Accepted.{from_zero, tree_in, IsAcceptedText, IsTextOf}
 use Rattle.certdef.specs.Restarts.{ClosedIsAccepted}
 use Rattle.certform.specs.Written.{from_one, written, IsBody}
-use Rattle.certform.specs.Faithful.{IsFitting, AreAlike, WrittenIsFaithful, FaithfulIsAccepted, TablesFit}
-use Rattle.treebook.specs.Tables.{Branch, on_edge, on_clique, IsTable, tree_of}
+use Rattle.certform.specs.Faithful.{AreAlike, WrittenIsFaithful, FaithfulIsAccepted, TablesFit}
+use Rattle.treebook.specs.Tables.{on_edge, on_clique, tree_of}
 use Rattle.treebook.specs.Laws.{IsGreatestBound, LessIsKept}
 use Rattle.worker.specs.Splits.{IsNeededSplit}
 use Rattle.bossx.specs.Books.{Book, best_length, level}

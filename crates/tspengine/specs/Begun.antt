@@ -1,6 +1,6 @@
 -- What a search begins with.
 use Rattle.std.specs.Prelude.{◌≡◌, ℕ, List, Option, Some}
-use Rattle.tspdef.specs.Instances.{Instance, length_in}
+use Rattle.tspdef.specs.Instances.{Instance}
 use Rattle.tspdef.specs.Trees.{Tree}
 use Rattle.tspengine.specs.Starts.{BeginsAnew, GoesOnWith}
 use Rattle.tspengine.specs.Searches.{start_in, IsSearchOf}

@@ -1,5 +1,5 @@
 -- What came of a search: a proof that no tour is shorter than a bound, or a body to go on from; or a tour alone.
-use Rattle.std.specs.Prelude.{◌≡◌, ℕ, ◌+◌, ◌<◌, ◌≤◌, List}
+use Rattle.std.specs.Prelude.{◌≡◌, ℕ, ◌+◌, ◌≤◌, List}
 use Rattle.tspdef.specs.Tours.{IsCanonical}
 use Rattle.tspdef.specs.Instances.{Instance, IsTourOf, length_in}
 use Rattle.tspdef.specs.Trees.{Tree, open_leaves, settled}

@@ -1,5 +1,5 @@
 -- The rounds of a search, and what they save.
-use Rattle.std.specs.Prelude.{◌≡◌, ℕ, ◌+◌, ◌<◌, ◌≤◌, ◌⊎◌, List, [], ◌∷◌, Result, Ok, Err}
+use Rattle.std.specs.Prelude.{◌≡◌, ◌<◌, List, [], ◌∷◌, Result, Ok, Err}
 use Rattle.ports.specs.Slots.{SlotsTold}
 use Rattle.ports.specs.Crash.{Moment, Since, moment_of}
 use Rattle.tspdef.specs.Trees.{open_leaves}
@@ -7,7 +7,6 @@ use Rattle.treebook.specs.Tables.{tree_of}
 use Rattle.certdef.specs.Proofs.{Proof}
 use Rattle.bossx.specs.Books.{Book}
 use Rattle.bossx.specs.Laws.{IsSameStart}
-use Rattle.tspengine.specs.Starts.{Start}
 use Rattle.tspengine.specs.Saves.{IsBodyOn, AreBodiesOn, LoadsAsOrOneOf, HasSaved, HasFailed}
 use Rattle.tspengine.specs.Searches.{start_in, IsSearch}
 use Rattle.tspengine.specs.declared.starting.Halt.{Halt}

@@ -20,7 +20,7 @@ use Rattle.tspengine.specs.Calls.{Call, DeskHad, DeskIs, DeskMoved, DeskTold, Sl
 use Rattle.tspengine.specs.Steps.{reads, prints, writes, TearsWriting}
 use Rattle.tspengine.specs.Texts.{closed_text, stopped_text, restart_text}
 use Rattle.tspengine.specs.Starts.{Start, Begins}
-use Rattle.tspengine.specs.Saves.{AreBodiesOn, IsBodyOn, LoadsAsOrOneOf, after_saves}
+use Rattle.tspengine.specs.Saves.{AreBodiesOn, LoadsAsOrOneOf, after_saves}
 use Rattle.tspengine.specs.Outcomes.{IsProved, IsStopped}
 use Rattle.tspengine.specs.Headline.{Optimal, Within, Stopped}
 use Rattle.tspengine.specs.Readings.{Refuses, TornRefusal, Unread}

@@ -1,5 +1,5 @@
 -- Where a search begins: anew, or with the body of an earlier one.
-use Rattle.std.specs.Prelude.{◌≡◌, ℕ, Bool, true, false, List, Some}
+use Rattle.std.specs.Prelude.{◌≡◌, ℕ, true, false, List, Some}
 use Rattle.ports.specs.Outside.{WhereTold}
 use Rattle.tspdef.specs.Instances.{Instance, length_in}
 use Rattle.tspdef.specs.Trees.{Tree, open_leaf}

@@ -61,23 +61,39 @@ fn a_stopped_search_goes_on(rt: HostRuntime) -> Result<(), Fail> {
     let stopped = solved(alloc, "tspc solve a b c --budget 0", SQUARE)?;
     assert_eq!(rt; stopped.text(), b"STOPPED 40 1\n".as_slice());
     let line = "tspc solve a b c --resume --budget 1";
-    let ended = run_on(alloc, line, SQUARE, stopped.slots.slot(0), stopped.slots.slot(1))?;
+    let ended = run_on(
+        alloc,
+        line,
+        SQUARE,
+        stopped.slots.slot(0),
+        stopped.slots.slot(1),
+    )?;
     assert_eq!(rt; ended.status, Status::Optimal);
     assert_eq!(rt; ended.desk.text(), b"OPTIMAL 40\nTOUR 1 2 3 4\n".as_slice());
     let checked = verified(alloc, SQUARE, ended.desk.proof())?;
     assert_eq!(rt; checked.text(), b"VERIFIED 40\n".as_slice());
     // With no budget left it stops again, and saves the same body to the other slot.
     let line = "tspc solve a b c --resume --budget 0";
-    let again = run_on(alloc, line, SQUARE, stopped.slots.slot(0), stopped.slots.slot(1))?;
+    let again = run_on(
+        alloc,
+        line,
+        SQUARE,
+        stopped.slots.slot(0),
+        stopped.slots.slot(1),
+    )?;
     assert_eq!(rt; again.status, Status::Stopped);
-    assert_eq!(rt; again.slots.slot(1).get(2..), stopped.slots.slot(0).get(2..));
+    assert_eq!(rt;
+        again.slots.slot(1).get(2..),
+        stopped.slots.slot(0).get(2..)
+    );
     Ok(())
 }
 
 #[test]
 fn bodies_that_are_none_are_refused(rt: HostRuntime) -> Result<(), Fail> {
     let alloc = rt.alloc();
-    let weak = b"TSPCERT 1\nN 4\nLENGTH 40\nTOUR 1 2 3 4\nCUTS 0\nL 4 0 0\nP 1 5111808\nP 2 5111808\nP 3 5111808\nP 4 5111808\n";
+    let weak =
+        b"TSPCERT 1\nN 4\nLENGTH 40\nTOUR 1 2 3 4\nCUTS 0\nL 4 0 0\nP 1 5111808\nP 2 5111808\nP 3 5111808\nP 4 5111808\n";
     let wrong_length = b"TSPCERT 1\nN 4\nLENGTH 39\nTOUR 1 2 3 4\nCUTS 0\nO\n";
     let decided = b"TSPCERT 1\nN 4\nLENGTH 40\nTOUR 1 2 3 4\nCUTS 0\nE 1 3\nE 1 3\nO\nO\nO\n";
     let wrong_bound = b"TSPCERT 2\nN 4\nLENGTH 40\nBOUND 40\nTOUR 1 2 3 4\nCUTS 0\nO\n";
@@ -130,7 +146,10 @@ fn a_gap_is_allowed(rt: HostRuntime) -> Result<(), Fail> {
     let line = "tspc solve a b c --resume --budget 1";
     let resumed = run_on(alloc, line, SQUARE, &slot, b"")?;
     assert_eq!(rt; resumed.status, Status::Optimal);
-    assert_eq!(rt; resumed.desk.text(), b"OPTIMAL 40\nTOUR 1 2 3 4\n".as_slice());
+    assert_eq!(rt;
+        resumed.desk.text(),
+        b"OPTIMAL 40\nTOUR 1 2 3 4\n".as_slice()
+    );
     Ok(())
 }
 
@@ -140,7 +159,13 @@ fn a_better_tour_of_the_body_is_kept(rt: HostRuntime) -> Result<(), Fail> {
     // The body's tour is longer than the opening tour, which is offered.
     let body = b"TSPCERT 1\nN 4\nLENGTH 48\nTOUR 1 2 3 4\nCUTS 0\nO\n";
     let slot = slot_of(alloc, body)?;
-    let ended = run_on(alloc, "tspc solve a b c --resume --budget 0", CROSSED, &slot, b"")?;
+    let ended = run_on(
+        alloc,
+        "tspc solve a b c --resume --budget 0",
+        CROSSED,
+        &slot,
+        b"",
+    )?;
     assert_eq!(rt; ended.status, Status::Stopped);
     assert_eq!(rt; ended.desk.text(), b"STOPPED 40 1\n".as_slice());
     Ok(())

@@ -45,7 +45,9 @@ pub(crate) fn search<L: Slots>(
     let mut pool = CutPool::new(alloc, instance.n());
     loop {
         let gap = boss.gap();
-        boss = alone(alloc, boss, &mut pool, instance, &near, &LpWorker, TURNS, seed, gap)?;
+        boss = alone(
+            alloc, boss, &mut pool, instance, &near, &LpWorker, TURNS, seed, gap,
+        )?;
         if !goes_on(&boss) {
             return Ok(boss);
         }
@@ -64,12 +66,7 @@ fn goes_on(boss: &Boss) -> bool
 }
 
 /// Saves the body of a search on its way.
-fn save<L: Slots>(
-    alloc: Global,
-    boss: &Boss,
-    slots: &mut L,
-    store: &mut Store,
-) -> Result<(), Halt>
+fn save<L: Slots>(alloc: Global, boss: &Boss, slots: &mut L, store: &mut Store) -> Result<(), Halt>
     requires stands { WhereTold (StandsFor store.old) (L.told slots.old) }
     requires search { IsSearch boss.now }
     requires some_open { 0 < open_leaves (tree_of boss.now.tree.nodes) }

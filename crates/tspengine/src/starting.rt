@@ -114,12 +114,7 @@ fn resume<L: Slots>(
 }
 
 /// Begins with a body, where it is one.
-fn begin_with(
-    alloc: Global,
-    words: &Solve,
-    instance: &Instance,
-    body: &[u8],
-) -> Result<Begun, Halt>
+fn begin_with(alloc: Global, words: &Solve, instance: &Instance, body: &[u8]) -> Result<Begun, Halt>
     requires few { words.now.budget ≤ 65536 }
     ensures begun { IfOk result (IsBegun instance.now words.now.budget words.now.gap) }
     ensures resumed { IfOk result (IsBegunWith instance.now words.now.budget words.now.gap (Some body.now)) }
@@ -127,7 +122,15 @@ fn begin_with(
 {
     match read(alloc, instance, body, words.budget, words.gap) {
         Ok((tree, tour)) => {
-            let search = go_on(alloc, instance, tree, tour, words.budget, words.seed, words.gap)?;
+            let search = go_on(
+                alloc,
+                instance,
+                tree,
+                tour,
+                words.budget,
+                words.seed,
+                words.gap,
+            )?;
             Ok(Begun::Search(search))
         }
         Err(ReadError::Refused(refusal, line)) => Ok(Begun::Refused(refusal, line)),

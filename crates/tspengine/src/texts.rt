@@ -35,12 +35,7 @@ pub(crate) fn closed_text(
 }
 
 /// A tour, its length, and a bound below it.
-fn within_text(
-    alloc: Global,
-    length: u64,
-    bound: u64,
-    tour: &[u32],
-) -> Result<Vec<u8>, AllocError>
+fn within_text(alloc: Global, length: u64, bound: u64, tour: &[u32]) -> Result<Vec<u8>, AllocError>
     ensures { IfOk result (λ t. t.items ≡ texts.within_text length bound tour.now) }
 {
     let mut text = format!(in alloc; "WITHIN {length} {bound}\nTOUR")?;

@@ -1,4 +1,4 @@
-use Rattle.std.proofs.Common.{◌≡◌, ◌+◌, ℕ, List, length, sym, ap, subst, ◌∙◌}
+use Rattle.std.proofs.Common.{◌≡◌, ◌+◌, ℕ, List, length, subst, ◌∙◌}
 use Rattle.tspdef.specs.Instances.{Instance}
 use Rattle.tspdef.specs.Trees.{open_leaves, settled}
 use Rattle.treebook.specs.Tables.{tree_of}

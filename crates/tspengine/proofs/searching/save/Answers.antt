@@ -1,4 +1,4 @@
-use Rattle.std.proofs.Common.{◌≡◌, ℕ, List, sym, subst}
+use Rattle.std.proofs.Common.{◌≡◌, ℕ, List, subst}
 use Rattle.ports.specs.Outside.{BothTell}
 use Rattle.ports.specs.Crash.{Since, moment_of}
 use Rattle.slotstore.specs.Store.{after_save}

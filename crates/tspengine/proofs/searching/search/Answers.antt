@@ -1,9 +1,9 @@
-use Rattle.std.proofs.Common.{◌≡◌, ◌∙◌, ℕ, sym, ap, subst, Result, Err, arith}
+use Rattle.std.proofs.Common.{◌∙◌, sym, ap, subst, Result, Err, arith}
 use Rattle.ports.specs.Outside.{BothTell}
 use Rattle.bossx.specs.Books.{Book}
 use Rattle.tspengine.specs.Rounds.{Searches}
 use Rattle.tspengine.specs.declared.starting.Halt.{Halt}
-use Rattle.tspengine.proofs.Rounds.{not_yet_further, nothing_saved, further_on, less_left, one_more, stopped_by, told_on, err_is}
+use Rattle.tspengine.proofs.Rounds.{not_yet_further, nothing_saved, further_on, one_more, stopped_by, told_on, err_is}
 use Rattle.tspengine.proofs.searching.search.Goals as goal
 
 pub loop-pool-init : goal.loop-pool-init

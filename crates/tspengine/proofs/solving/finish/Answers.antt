@@ -1,4 +1,4 @@
-use Rattle.std.proofs.Common.{◌≡◌, List, ℕ, sym, subst, ◌∙◌}
+use Rattle.std.proofs.Common.{List, ℕ, sym, subst, ◌∙◌}
 use Rattle.verification.proofs.Tells.{on_err, on_ok}
 use Rattle.tspengine.specs.Calls.{ending_with}
 use Rattle.tspengine.specs.Outcomes.{IsOutcome, IsBodyOf}

@@ -1,8 +1,6 @@
-use Rattle.std.proofs.Common.{◌≡◌, arith}
-use Rattle.ports.specs.Outside.{BothTell}
+use Rattle.std.proofs.Common.{arith}
 use Rattle.tspengine.specs.Calls.{ending_with}
 use Rattle.tspengine.specs.Searches.{start_in}
-use Rattle.tspengine.specs.Rounds.{Searches}
 use Rattle.tspengine.proofs.Joining.{searched_of, halted_search, outcome_at, begins_end, searched_end}
 use Rattle.tspengine.proofs.Solves.{short_search}
 use Rattle.tspengine.proofs.solving.solve_by.Goals as goal

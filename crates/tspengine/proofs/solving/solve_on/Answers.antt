@@ -6,12 +6,8 @@ use Rattle.slotstore.specs.Store.{loaded}
 use Rattle.tspwords.specs.Program.{restart_word}
 use Rattle.tspengine.specs.Calls.{ending_with}
 use Rattle.tspengine.specs.Begun.{IsBegunAnew, IsBegunWith}
-use Rattle.tspengine.specs.Solving.{IsBegun, Solves}
+use Rattle.tspengine.specs.Solving.{IsBegun}
 use Rattle.tspengine.specs.declared.starting.Begun.{Begun}
-use Rattle.tspengine.specs.declared.starting.Begun.TheVariants as begun
-use Rattle.tspengine.specs.declared.starting.Halt.{Halt}
-use Rattle.tspengine.specs.declared.starting.Halt.TheVariants as halt
-use Rattle.tspengine.specs.declared.statuses.Status.{Status}
 use Rattle.tspengine.proofs.Solves.{body_refused}
 use Rattle.tspengine.proofs.Joining.{begins_of, refused_of, halted_begin}
 use Rattle.tspengine.proofs.solving.solve_on.Goals as goal
