@@ -143,7 +143,7 @@ then_line_end i old mid new run s e m b = λ u said k.
     let front = bytes_say j (reads (reading_of old)) run in
     let last = byte_says i.n (reading_of mid) 10 in
     let joined : bytes_say j (reads (reading_of old)) (run ++ 10 ∷ []) ≡ front ++ last =
-        in_pieces j (reads (reading_of old)) run (10 ∷ []) ∙ (ap (λ x. front ++ bytes_say j x (10 ∷ [])) e ∙ ap (λ x. front ++ x) (one_said j (reading_of mid) 10)) in
+    in_pieces j (reads (reading_of old)) run (10 ∷ []) ∙ (ap (λ x. front ++ bytes_say j x (10 ∷ [])) e ∙ ap (λ x. front ++ x) (one_said j (reading_of mid) 10)) in
     subst (Keeps new.parts) (append_assoc said front last ∙ ap (λ x. said ++ x) (sym joined)) (b (s ∙ u) (said ++ front) (m u said k))
 
 pub on_ok_then : {X E : Type 0} (r : Result X E) (P Q : Type 0) → OnOk r P → (P → Q) → OnOk r Q

@@ -164,9 +164,10 @@ pub one_tree : BytesHaveOneValue → OneTree
 one_tree one i budget gap body tree other tour another r q =
     let n = few_cities i body r.long r.bound r.value r.said in
     let values : r.value ≡ q.value = one i.n i.n r.value q.value n n r.said.form.readable q.said.form.readable (sym r.text ∙ q.text) in
-    let long : r.long ≡ q.long = sym r.said.body.about.same ∙ (ap (λ (p : Proof). p.long) values ∙ q.said.body.about.same) in
-    (r.reopened ∙ (same_read i r.long q.long gap r.value q.value values long ∙ sym q.reopened),
-    r.tours_are_one ∙ (ap (λ (p : Proof). from_zero p.tour) values ∙ sym q.tours_are_one))
+    let long : r.long ≡ q.long = sym r.said.body.about.same ∙ (ap (λ (p : Proof). p.long) values ∙ q.said.body.about.same) in (
+      r.reopened ∙ (same_read i r.long q.long gap r.value q.value values long ∙ sym q.reopened),
+      r.tours_are_one ∙ (ap (λ (p : Proof). from_zero p.tour) values ∙ sym q.tours_are_one),
+    )
 
 pub bodies_are_read : ResumedIsSound → BodiesAreRead
 bodies_are_read sound i budget gap body l b p few said room = resumed_of i budget gap body l b p sound few said room

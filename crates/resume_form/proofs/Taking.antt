@@ -281,20 +281,22 @@ split_stands i x y goal nodes k ks b rest (z ∷ ts) t u s =
     let tree = (splitting_keeps_tables i.n i.fixed nodes k b t h.is_open sound.0).tree in
     let here : reopened i y path z ≡ split_tree b one_tree two_tree = ap (reopened i y path) f.2 ∙ split_reopened i y path b f.0 f.1 in
     let both : with_leaf (with_leaf (tree_of more) (sides_of more (length nodes)) (reopened i y (path_at i.fixed more (length nodes)) f.0)) (sides_of more (length nodes + 1)) (reopened i y (path_at i.fixed more (length nodes + 1)) f.1)
-      ≡ with_leaf (tree_of nodes) place (reopened i y path z) =
-      child_filling i y nodes more k b second (length nodes + 1) f.1 (with_leaf (tree_of more) (sides_of more (length nodes)) (reopened i y (path_at i.fixed more (length nodes)) f.0)) two
-      ∙ ap (λ q. with_leaf q (place ++ second ∷ []) two_tree) (child_filling i y nodes more k b first (length nodes) f.0 (tree_of more) one)
-      ∙ ap (λ q. with_leaf (with_leaf q (place ++ first ∷ []) one_tree) (place ++ second ∷ []) two_tree) tree
-      ∙ children_in_place (root i) (tree_of nodes) place path b one_tree two_tree leaf
-      ∙ ap (with_leaf (tree_of nodes) place) (sym here) in (
+    ≡ with_leaf (tree_of nodes) place (reopened i y path z) =
+    child_filling i y nodes more k b second (length nodes + 1) f.1 (with_leaf (tree_of more) (sides_of more (length nodes)) (reopened i y (path_at i.fixed more (length nodes)) f.0)) two
+    ∙ ap (λ q. with_leaf q (place ++ second ∷ []) two_tree) (child_filling i y nodes more k b first (length nodes) f.0 (tree_of more) one)
+    ∙ ap (λ q. with_leaf (with_leaf q (place ++ first ∷ []) one_tree) (place ++ second ∷ []) two_tree) tree
+    ∙ children_in_place (root i) (tree_of nodes) place path b one_tree two_tree leaf
+    ∙ ap (with_leaf (tree_of nodes) place) (sym here) in (
       f.0 ∷ f.1 ∷ ts,
       record {
         come = (
           child_comes i x nodes more k b first (length nodes) f.0 one sound.1 fit.0,
           ((λ e. absurd (omega arith)), come_apart i x nodes (length nodes) ks ts (omega arith) s.come.2),
-          (child_comes i x nodes more k b second (length nodes + 1) f.1 two sound.2 fit.1,
-          come_apart i x nodes (length nodes + 1) ks ts (omega arith) s.come.2,
-          come_kept i x nodes more k t h.is_open g ks ts s.come.1 s.come.2),
+          (
+            child_comes i x nodes more k b second (length nodes + 1) f.1 two sound.2 fit.1,
+            come_apart i x nodes (length nodes + 1) ks ts (omega arith) s.come.2,
+            come_kept i x nodes more k t h.is_open g ks ts s.come.1 s.come.2,
+          ),
         );
         parts = f.3 ∙ append_assoc (preorder f.0) (preorder f.1) (flat_map preorder ts);
         reaches = ap (filled (fillings i y more ks ts)) both
@@ -337,9 +339,9 @@ growing_from i x y t table left pairs sound fit e n fixed nodes room =
       room = room;
       count = omega arith;
     } where
-  nothing : (xs : List Part) → xs ++ [] ≡ xs
-  nothing [] = refl
-  nothing (x ∷ xs) = ap (λ ys. x ∷ ys) (nothing xs)
+      nothing : (xs : List Part) → xs ++ [] ≡ xs
+      nothing [] = refl
+      nothing (x ∷ xs) = ap (λ ys. x ∷ ys) (nothing xs)
 
 -- a tree is to come, but no part is left
 none_left : (t : Tree) (more : List Part) → [] ≡ preorder t ++ more → ⊥

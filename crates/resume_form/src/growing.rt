@@ -64,14 +64,7 @@ fn suffices(
 }
 
 /// Closes a node, unless its closing is too weak for a level. It suffices for the bound that is told.
-fn close(
-    tree: &mut Tree,
-    instance: &Instance,
-    told: u64,
-    level: u64,
-    node: u32,
-    closing: Closing,
-)
+fn close(tree: &mut Tree, instance: &Instance, told: u64, level: u64, node: u32, closing: Closing)
     requires cities { tree.old.n ≡ instance.now.n }
     requires fixed { tree.old.fixed ≡ instance.now.fixed }
     requires is_open { IsOpen tree.old.nodes node }

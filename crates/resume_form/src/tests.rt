@@ -18,8 +18,7 @@ pub(crate) const HEAD: &str = "TSPCERT 1\nN 4\nLENGTH 40\nTOUR 1 2 3 4\nCUTS 0\n
 pub(crate) const DUALS: &str = "L 4 0 0\nP 1 5242880\nP 2 5242880\nP 3 5242880\nP 4 5242880\n";
 
 /// The same head, with a bound of 30.
-pub(crate) const HEAD_OF_30: &str =
-    "TSPCERT 2\nN 4\nLENGTH 40\nBOUND 30\nTOUR 1 2 3 4\nCUTS 0\n";
+pub(crate) const HEAD_OF_30: &str = "TSPCERT 2\nN 4\nLENGTH 40\nBOUND 30\nTOUR 1 2 3 4\nCUTS 0\n";
 
 /// A leaf that suffices for 30, and for no more.
 pub(crate) const DUALS_OF_30: &str =

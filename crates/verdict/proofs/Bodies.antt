@@ -77,7 +77,7 @@ yes_tree i h path (closed_leaf d) o w s =
     let all = closing_of i.n (cuts_of i.n h.cuts) d in (
       record { cities = o.cities; cuts = o.cuts; conds = o.conds; named = yes_cliques i path (firsts d.conds) w },
       and_from (sums_fit (merged_cuts all.cuts)) (lt_z (needed h.bound) (bound i path (merged_closing all))) (fit_sizes (merged_cuts all.cuts) s.0.sizes.cuts)
-      (z_below (needed h.bound) (bound i path (merged_closing all)) s.1),
+          (z_below (needed h.bound) (bound i path (merged_closing all)) s.1),
     )
 yes_tree i h path (edge_split u v t z) o w s = (
   s.0.1,

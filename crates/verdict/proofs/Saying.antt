@@ -90,30 +90,36 @@ duals_said : (j : Tests) (at : ℕ) (h : Head) (ps : List (List Condition)) (o :
     ≡ parts.closed (merged_closing (closing_of j.n (cuts_of j.n h.cuts) (joined o.duals (record { cities = cs; cuts = ys; conds = zs })))) ∷ lines_say j k (go (wants_trees h ps)) rest)
 duals_said j at h ps o [] [] [] rest g e =
     let none = joined_nil o.duals (record { cities = []; cuts = []; conds = [] }) refl refl refl in
-    let e' : j.closes h.bound h.cuts o.path o.duals ≡ true = subst (λ d. j.closes h.bound h.cuts o.path d ≡ true) none e in
-    (at, ap (λ x. leaf_says j.n h o.duals 0 0 0 ++ lines_say j at x rest) (passed (j.closes h.bound h.cuts o.path o.duals) (go (wants_trees h ps)) (refused 7 o.at) e')
-    ∙ ap (λ d. parts.closed (merged_closing (closing_of j.n (cuts_of j.n h.cuts) d)) ∷ lines_say j at (go (wants_trees h ps)) rest) (sym none))
+    let e' : j.closes h.bound h.cuts o.path o.duals ≡ true = subst (λ d. j.closes h.bound h.cuts o.path d ≡ true) none e in (
+      at,
+      ap (λ x. leaf_says j.n h o.duals 0 0 0 ++ lines_say j at x rest) (passed (j.closes h.bound h.cuts o.path o.duals) (go (wants_trees h ps)) (refused 7 o.at) e')
+          ∙ ap (λ d. parts.closed (merged_closing (closing_of j.n (cuts_of j.n h.cuts) d)) ∷ lines_say j at (go (wants_trees h ps)) rest) (sym none),
+    )
 duals_said j at h ps o (p ∷ cs) ys zs rest g e =
     let r = rises_next o.duals.cities p j.n (firsts cs) g.cities in
     let q = with_city o p.0 p.1 in
     let xs = (map city_item cs ++ (map cut_item ys ++ map condition_item zs)) ++ rest in
     let more : Duals = record { cities = cs; cuts = ys; conds = zs } in
     let all : joined q.duals more ≡ joined o.duals (record { cities = p ∷ cs; cuts = ys; conds = zs }) =
-      ap (λ r. record { cities = r; cuts = o.duals.cuts ++ ys; conds = o.duals.conds ++ zs }) (append_assoc o.duals.cities (p ∷ []) cs) in
-    let b = duals_said j (at + 1) h ps q cs ys zs rest (record { cities = r.2; cuts = g.cuts; conds = g.conds; named = g.named }) (ap (λ d. j.closes h.bound h.cuts o.path d) all ∙ e) in
-    (b.0, ap (λ x. leaf_says j.n h q.duals (length cs) (length ys) (length zs) ++ lines_say j (at + 1) x xs) (passed (nat_le (after o.duals.cities) p.0) (duals_on j h ps q (length cs) (length ys) (length zs)) (refused 1 at) r.0)
-    ∙ (b.1 ∙ ap (λ d. parts.closed (merged_closing (closing_of j.n (cuts_of j.n h.cuts) d)) ∷ lines_say j b.0 (go (wants_trees h ps)) rest) all))
+    ap (λ r. record { cities = r; cuts = o.duals.cuts ++ ys; conds = o.duals.conds ++ zs }) (append_assoc o.duals.cities (p ∷ []) cs) in
+    let b = duals_said j (at + 1) h ps q cs ys zs rest (record { cities = r.2; cuts = g.cuts; conds = g.conds; named = g.named }) (ap (λ d. j.closes h.bound h.cuts o.path d) all ∙ e) in (
+      b.0,
+      ap (λ x. leaf_says j.n h q.duals (length cs) (length ys) (length zs) ++ lines_say j (at + 1) x xs) (passed (nat_le (after o.duals.cities) p.0) (duals_on j h ps q (length cs) (length ys) (length zs)) (refused 1 at) r.0)
+          ∙ (b.1 ∙ ap (λ d. parts.closed (merged_closing (closing_of j.n (cuts_of j.n h.cuts) d)) ∷ lines_say j b.0 (go (wants_trees h ps)) rest) all),
+    )
 duals_said j at h ps o [] (p ∷ ys) zs rest g e =
     let r = rises_next o.duals.cuts p (length h.cuts) (firsts ys) g.cuts in
     let q = with_cut_dual o p.0 p.1 in
     let xs = (map cut_item ys ++ map condition_item zs) ++ rest in
     let more : Duals = record { cities = []; cuts = ys; conds = zs } in
     let all : joined q.duals more ≡ joined o.duals (record { cities = []; cuts = p ∷ ys; conds = zs }) =
-      ap (λ r. record { cities = o.duals.cities ++ []; cuts = r; conds = o.duals.conds ++ zs }) (append_assoc o.duals.cuts (p ∷ []) ys) in
-    let b = duals_said j (at + 1) h ps q [] ys zs rest (record { cities = g.cities; cuts = r.2; conds = g.conds; named = g.named }) (ap (λ d. j.closes h.bound h.cuts o.path d) all ∙ e) in
-    (b.0, ap (λ x. leaf_says j.n h q.duals 0 (length ys) (length zs) ++ lines_say j (at + 1) x xs)
-    (passed (nat_le (after o.duals.cuts) p.0 && nat_le p.0 (length h.cuts)) (duals_on j h ps q 0 (length ys) (length zs)) (refused 1 at) (and_from (nat_le (after o.duals.cuts) p.0) (nat_le p.0 (length h.cuts)) r.0 r.1))
-    ∙ (b.1 ∙ ap (λ d. parts.closed (merged_closing (closing_of j.n (cuts_of j.n h.cuts) d)) ∷ lines_say j b.0 (go (wants_trees h ps)) rest) all))
+    ap (λ r. record { cities = o.duals.cities ++ []; cuts = r; conds = o.duals.conds ++ zs }) (append_assoc o.duals.cuts (p ∷ []) ys) in
+    let b = duals_said j (at + 1) h ps q [] ys zs rest (record { cities = g.cities; cuts = r.2; conds = g.conds; named = g.named }) (ap (λ d. j.closes h.bound h.cuts o.path d) all ∙ e) in (
+      b.0,
+      ap (λ x. leaf_says j.n h q.duals 0 (length ys) (length zs) ++ lines_say j (at + 1) x xs)
+          (passed (nat_le (after o.duals.cuts) p.0 && nat_le p.0 (length h.cuts)) (duals_on j h ps q 0 (length ys) (length zs)) (refused 1 at) (and_from (nat_le (after o.duals.cuts) p.0) (nat_le p.0 (length h.cuts)) r.0 r.1))
+          ∙ (b.1 ∙ ap (λ d. parts.closed (merged_closing (closing_of j.n (cuts_of j.n h.cuts) d)) ∷ lines_say j b.0 (go (wants_trees h ps)) rest) all),
+    )
 duals_said j at h ps o [] [] (p ∷ zs) rest g e =
     let r = rises_next o.duals.conds p (2 ^ 32) (firsts zs) g.conds in
     let w = and_parts (j.names o.path p.0) (all_named j o.path (firsts zs)) g.named in
@@ -121,11 +127,13 @@ duals_said j at h ps o [] [] (p ∷ zs) rest g e =
     let xs = map condition_item zs ++ rest in
     let more : Duals = record { cities = []; cuts = []; conds = zs } in
     let all : joined q.duals more ≡ joined o.duals (record { cities = []; cuts = []; conds = p ∷ zs }) =
-      ap (λ r. record { cities = o.duals.cities ++ []; cuts = o.duals.cuts ++ []; conds = r }) (append_assoc o.duals.conds (p ∷ []) zs) in
-    let b = duals_said j (at + 1) h ps q [] [] zs rest (record { cities = g.cities; cuts = g.cuts; conds = r.2; named = w.1 }) (ap (λ d. j.closes h.bound h.cuts o.path d) all ∙ e) in
-    (b.0, ap (λ x. leaf_says j.n h q.duals 0 0 (length zs) ++ lines_say j (at + 1) x xs)
-    (passed (nat_le (after o.duals.conds) p.0 && j.names o.path p.0) (duals_on j h ps q 0 0 (length zs)) (refused 1 at) (and_from (nat_le (after o.duals.conds) p.0) (j.names o.path p.0) r.0 w.0))
-    ∙ (b.1 ∙ ap (λ d. parts.closed (merged_closing (closing_of j.n (cuts_of j.n h.cuts) d)) ∷ lines_say j b.0 (go (wants_trees h ps)) rest) all))
+    ap (λ r. record { cities = o.duals.cities ++ []; cuts = o.duals.cuts ++ []; conds = r }) (append_assoc o.duals.conds (p ∷ []) zs) in
+    let b = duals_said j (at + 1) h ps q [] [] zs rest (record { cities = g.cities; cuts = g.cuts; conds = r.2; named = w.1 }) (ap (λ d. j.closes h.bound h.cuts o.path d) all ∙ e) in (
+      b.0,
+      ap (λ x. leaf_says j.n h q.duals 0 0 (length zs) ++ lines_say j (at + 1) x xs)
+          (passed (nat_le (after o.duals.conds) p.0 && j.names o.path p.0) (duals_on j h ps q 0 0 (length zs)) (refused 1 at) (and_from (nat_le (after o.duals.conds) p.0) (j.names o.path p.0) r.0 w.0))
+          ∙ (b.1 ∙ ap (λ d. parts.closed (merged_closing (closing_of j.n (cuts_of j.n h.cuts) d)) ∷ lines_say j b.0 (go (wants_trees h ps)) rest) all),
+    )
 
 -- ---- trees
 
@@ -141,10 +149,12 @@ both_said : (j : Tests) (h : Head) (at : ℕ) (o : Outcome) (p q : List Conditio
     → Says j at o ((tree_items t ++ tree_items s) ++ rest) (nodes_of j.n h t ++ nodes_of j.n h s) (go (wants_trees h ps)) rest
 both_said j h at o p q ps t s rest one other e =
     let a = one (tree_items s ++ rest) in
-    let b = other a.0 in
-    (b.0, ap (λ x. lines_say j at x ((tree_items t ++ tree_items s) ++ rest)) e
-    ∙ (ap (λ xs. lines_say j at (go (wants_trees h (p ∷ q ∷ ps))) xs) (append_assoc (tree_items t) (tree_items s) rest)
-    ∙ (a.1 ∙ (ap (λ xs. nodes_of j.n h t ++ xs) b.1 ∙ sym (append_assoc (nodes_of j.n h t) (nodes_of j.n h s) (lines_say j b.0 (go (wants_trees h ps)) rest))))))
+    let b = other a.0 in (
+      b.0,
+      ap (λ x. lines_say j at x ((tree_items t ++ tree_items s) ++ rest)) e
+          ∙ (ap (λ xs. lines_say j at (go (wants_trees h (p ∷ q ∷ ps))) xs) (append_assoc (tree_items t) (tree_items s) rest)
+          ∙ (a.1 ∙ (ap (λ xs. nodes_of j.n h t ++ xs) b.1 ∙ sym (append_assoc (nodes_of j.n h t) (nodes_of j.n h s) (lines_say j b.0 (go (wants_trees h ps)) rest))))),
+    )
 
 tree_said : (j : Tests) (h : Head) (path : List Condition) (ps : List (List Condition)) (t : Written) (at : ℕ) (rest : List Item) → Good j h path t
     → Says j at (go (wants_trees h (path ∷ ps))) (tree_items t ++ rest) (nodes_of j.n h t) (go (wants_trees h ps)) rest
@@ -186,14 +196,18 @@ tour_said j at l p g =
 -- the lines before the tour say nothing
 head_said : (j : Tests) (l : ℕ × ℕ) (n m : ℕ) (told : Option ℕ) (ys : List Item) → j.size n ≡ true → m ≡ l.0 → IsToldBound j told l
     → (k : ℕ) × (lines_say j 1 (go wants_title) (head_items n m told ++ ys) ≡ lines_say j k (go (wants_tour l.0 l.1)) ys)
-head_said j l n m None ys s e b =
-    (4, ap (λ x. lines_say j 3 x (length_line m ∷ ys)) (passed (j.size n) (go (wants_length 1)) (refused 2 2) s)
-    ∙ (ap (λ x. lines_say j 4 (go (wants_tour x x)) ys) e ∙ ap (λ x. lines_say j 4 (go (wants_tour l.0 x)) ys) (sym b)))
-head_said j l n m (Some told) ys s e b =
-    (5, ap (λ x. lines_say j 3 x (length_line m ∷ bound_line told ∷ ys)) (passed (j.size n) (go (wants_length 2)) (refused 2 2) s)
-    ∙ (ap (λ x. lines_say j 5 (cond (j.below told x) (go (wants_tour x told)) (refused 11 4)) ys) e
-    ∙ (ap (λ x. lines_say j 5 (cond (j.below x l.0) (go (wants_tour l.0 x)) (refused 11 4)) ys) b.0
-    ∙ ap (λ x. lines_say j 5 x ys) (passed (j.below l.1 l.0) (go (wants_tour l.0 l.1)) (refused 11 4) b.1))))
+head_said j l n m None ys s e b = (
+  4,
+  ap (λ x. lines_say j 3 x (length_line m ∷ ys)) (passed (j.size n) (go (wants_length 1)) (refused 2 2) s)
+      ∙ (ap (λ x. lines_say j 4 (go (wants_tour x x)) ys) e ∙ ap (λ x. lines_say j 4 (go (wants_tour l.0 x)) ys) (sym b)),
+)
+head_said j l n m (Some told) ys s e b = (
+  5,
+  ap (λ x. lines_say j 3 x (length_line m ∷ bound_line told ∷ ys)) (passed (j.size n) (go (wants_length 2)) (refused 2 2) s)
+      ∙ (ap (λ x. lines_say j 5 (cond (j.below told x) (go (wants_tour x told)) (refused 11 4)) ys) e
+      ∙ (ap (λ x. lines_say j 5 (cond (j.below x l.0) (go (wants_tour l.0 x)) (refused 11 4)) ys) b.0
+      ∙ ap (λ x. lines_say j 5 x ys) (passed (j.below l.1 l.0) (go (wants_tour l.0 l.1)) (refused 11 4) b.1))),
+)
 
 -- the lines of a value that passes the tests say its parts
 pub good_said : (j : Tests) (l : ℕ × ℕ) (p : Proof) → IsGood j l p → lines_say j 1 (go wants_title) (items p) ≡ parts_of j.n p

@@ -42,10 +42,7 @@ fn first_other(
 #[test]
 fn a_leaf_that_is_too_weak_for_its_bound(rt: HostRuntime) -> Result<(), Fail> {
     let alloc = rt.alloc();
-    let rows = [
-        (WEAK, (4u32, 6u64)),
-        ("E 1 3\nO\nL 0 0 0\n", (4, 8)),
-    ];
+    let rows = [(WEAK, (4u32, 6u64)), ("E 1 3\nO\nL 0 0 0\n", (4, 8))];
     assert_eq!(rt; first_other(alloc, HEAD, &rows)?, None);
     let weak = [("L 0 0 0\n", (4u32, 7u64)), (WEAK, (0, 0)), (DUALS, (0, 0))];
     assert_eq!(rt; first_other(alloc, HEAD_OF_30, &weak)?, None);
@@ -70,9 +67,18 @@ fn heads(rt: HostRuntime) -> Result<(), Fail> {
         ("TSPCERT 1\nN 4\nLENGTH 40\nTOUR 1 2 3 3\n", (1, 4)),
         ("TSPCERT 2\nN 4\nLENGTH 40\nBOUND 40\n", (1, 4)),
         ("TSPCERT 2\nN 4\nLENGTH 40\nTOUR 1 2 3 4\n", (1, 4)),
-        ("TSPCERT 2\nN 4\nLENGTH 41\nBOUND 40\nTOUR 1 2 3 4\n", (3, 5)),
-        ("TSPCERT 2\nN 4\nLENGTH 40\nBOUND 30\nTOUR 1 4 3 2\n", (1, 5)),
-        ("TSPCERT 1\nN 4\nLENGTH 40\nTOUR 1 2 3 4\nCUTS 1\nS 4 1 2 3 4\n", (1, 6)),
+        (
+            "TSPCERT 2\nN 4\nLENGTH 41\nBOUND 40\nTOUR 1 2 3 4\n",
+            (3, 5),
+        ),
+        (
+            "TSPCERT 2\nN 4\nLENGTH 40\nBOUND 30\nTOUR 1 4 3 2\n",
+            (1, 5),
+        ),
+        (
+            "TSPCERT 1\nN 4\nLENGTH 40\nTOUR 1 2 3 4\nCUTS 1\nS 4 1 2 3 4\n",
+            (1, 6),
+        ),
     ];
     assert_eq!(rt; first_other(rt.alloc(), "", &rows)?, None);
     Ok(())
@@ -101,7 +107,10 @@ fn sums_above_the_limit(rt: HostRuntime) -> Result<(), Fail> {
     let cities = "L 4 2 0\nP 1 -4611686018422145024\nP 2 5242880\nP 3 5242880\nP 4 5242880\n";
     let front = format!(in alloc; "{head}{cities}")?;
     let rows = [
-        ("Y 1 2305843009213693952\nY 2 2305843009213693952\n", (0u32, 0u64)),
+        (
+            "Y 1 2305843009213693952\nY 2 2305843009213693952\n",
+            (0u32, 0u64),
+        ),
         ("Y 1 2305843009213693952\nY 2 2305843009213693953\n", (4, 8)),
         ("Y 1 4611686018427387904\nY 2 4611686018427387904\n", (4, 8)),
     ];

@@ -1,8 +1,6 @@
 //! Bodies that are read.
 
-use crate::tests::{
-    DUALS, DUALS_OF_30, HEAD, HEAD_OF_30, nodes, open_chain, square, taken,
-};
+use crate::tests::{DUALS, DUALS_OF_30, HEAD, HEAD_OF_30, nodes, open_chain, square, taken};
 use std::test::Fail;
 use treebook::State;
 
@@ -63,7 +61,9 @@ fn equal_cuts_are_one(rt: HostRuntime) -> Result<(), Fail> {
     let alloc = rt.alloc();
     let head = "TSPCERT 1\nN 4\nLENGTH 40\nTOUR 1 2 3 4\nCUTS 2\nS 1 1\nS 1 1\n";
     let cities = "L 4 2 0\nP 1 -4611686018422145024\nP 2 5242880\nP 3 5242880\nP 4 5242880\n";
-    let text = format!(in alloc; "{head}{cities}Y 1 2305843009213693952\nY 2 2305843009213693952\n")?;
+    let text = format!(in alloc;
+        "{head}{cities}Y 1 2305843009213693952\nY 2 2305843009213693952\n"
+    )?;
     let (tree, _) = taken(alloc, &text, 0, 0)?;
     if tree.nodes() == 0 {
         return Err("no node".into());

@@ -16,10 +16,12 @@ loop-part-init c =
 pub take-requires : goal.take-requires
 take-requires c = let said = c.requires.said.0 in (
   parts_of c.pop_front.new.self.items,
-  (reopened_for c.args.instance.now c.args.level said,
-  length (parts_of c.args.parts.items),
-  subst (λ q. IsGrowing c.args.instance.now (needed c.args.told) (needed c.args.level) (reopened_for c.args.instance.now c.args.level said) (length (parts_of c.args.parts.items)) c.loop-part.tree c.loop-part.waiting.items (parts_of q))
-  c.in-Some.ensures.items (c.loop-part.invariant said c.requires.said.1)),
+  (
+    reopened_for c.args.instance.now c.args.level said,
+    length (parts_of c.args.parts.items),
+    subst (λ q. IsGrowing c.args.instance.now (needed c.args.told) (needed c.args.level) (reopened_for c.args.instance.now c.args.level said) (length (parts_of c.args.parts.items)) c.loop-part.tree c.loop-part.waiting.items (parts_of q))
+        c.in-Some.ensures.items (c.loop-part.invariant said c.requires.said.1),
+  ),
 )
 
 pub loop-part-preserved : goal.loop-part-preserved

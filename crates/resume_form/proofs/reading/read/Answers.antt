@@ -30,7 +30,7 @@ grow-requires-clause-said c =
     let said = c.in-Ok.said in
     let few : i.n < 2 ^ 32 = search rules in
     let w : IsWhole i c.args.body.now said.length said.bound c.args.budget said.parts.items =
-        whole i c.args.body.now said.length said.bound c.args.budget said.parts.items said.full c.yes_is_body_text.ensures.exact c.yes_is_body_text.ensures.parts few c.in-Ok.ensures.judged c.in-Ok.ensures.said (sym c.has_room.ensures ∙ c.if-not-has_room.false) in
+    whole i c.args.body.now said.length said.bound c.args.budget said.parts.items said.full c.yes_is_body_text.ensures.exact c.yes_is_body_text.ensures.parts few c.in-Ok.ensures.judged c.in-Ok.ensures.said (sym c.has_room.ensures ∙ c.if-not-has_room.false) in
     let t = taken i c.args.body.now said.length said.bound c.args.budget said.parts.items c.take_tour-tour.new.parts.items c.take_tour-tour.result w c.take_tour-tour.ensures in
     (merged (tree_in i.n w.value), taken_said i c.args.body.now said.length said.bound c.args.budget said.parts.items c.take_tour-tour.new.parts.items c.take_tour-tour.result w t)
 
@@ -40,7 +40,7 @@ returns-clause-read c =
     let said = c.in-Ok.said in
     let few : i.n < 2 ^ 32 = search rules in
     let w : IsWhole i c.args.body.now said.length said.bound c.args.budget said.parts.items =
-        whole i c.args.body.now said.length said.bound c.args.budget said.parts.items said.full c.yes_is_body_text.ensures.exact c.yes_is_body_text.ensures.parts few c.in-Ok.ensures.judged c.in-Ok.ensures.said (sym c.has_room.ensures ∙ c.if-not-has_room.false) in
+    whole i c.args.body.now said.length said.bound c.args.budget said.parts.items said.full c.yes_is_body_text.ensures.exact c.yes_is_body_text.ensures.parts few c.in-Ok.ensures.judged c.in-Ok.ensures.said (sym c.has_room.ensures ∙ c.if-not-has_room.false) in
     let t = taken i c.args.body.now said.length said.bound c.args.budget said.parts.items c.take_tour-tour.new.parts.items c.take_tour-tour.result w c.take_tour-tour.ensures in
     let s = taken_said i c.args.body.now said.length said.bound c.args.budget said.parts.items c.take_tour-tour.new.parts.items c.take_tour-tour.result w t in
     was_read i c.args.budget c.args.gap c.saturating_sub-level.result c.args.body.now said.length said.bound said.parts.items c.take_tour-tour.new.parts.items c.take_tour-tour.result c.in_ok-tree.tree
@@ -52,7 +52,7 @@ returns-clause-cities c =
     let said = c.in-Ok.said in
     let few : i.n < 2 ^ 32 = search rules in
     let w : IsWhole i c.args.body.now said.length said.bound c.args.budget said.parts.items =
-        whole i c.args.body.now said.length said.bound c.args.budget said.parts.items said.full c.yes_is_body_text.ensures.exact c.yes_is_body_text.ensures.parts few c.in-Ok.ensures.judged c.in-Ok.ensures.said (sym c.has_room.ensures ∙ c.if-not-has_room.false) in
+    whole i c.args.body.now said.length said.bound c.args.budget said.parts.items said.full c.yes_is_body_text.ensures.exact c.yes_is_body_text.ensures.parts few c.in-Ok.ensures.judged c.in-Ok.ensures.said (sym c.has_room.ensures ∙ c.if-not-has_room.false) in
     let t = taken i c.args.body.now said.length said.bound c.args.budget said.parts.items c.take_tour-tour.new.parts.items c.take_tour-tour.result w c.take_tour-tour.ensures in
     let s = taken_said i c.args.body.now said.length said.bound c.args.budget said.parts.items c.take_tour-tour.new.parts.items c.take_tour-tour.result w t in
     (c.in_ok-tree.ensures (merged (tree_in i.n w.value)) s).cities
@@ -63,7 +63,7 @@ returns-clause-fixed c =
     let said = c.in-Ok.said in
     let few : i.n < 2 ^ 32 = search rules in
     let w : IsWhole i c.args.body.now said.length said.bound c.args.budget said.parts.items =
-        whole i c.args.body.now said.length said.bound c.args.budget said.parts.items said.full c.yes_is_body_text.ensures.exact c.yes_is_body_text.ensures.parts few c.in-Ok.ensures.judged c.in-Ok.ensures.said (sym c.has_room.ensures ∙ c.if-not-has_room.false) in
+    whole i c.args.body.now said.length said.bound c.args.budget said.parts.items said.full c.yes_is_body_text.ensures.exact c.yes_is_body_text.ensures.parts few c.in-Ok.ensures.judged c.in-Ok.ensures.said (sym c.has_room.ensures ∙ c.if-not-has_room.false) in
     let t = taken i c.args.body.now said.length said.bound c.args.budget said.parts.items c.take_tour-tour.new.parts.items c.take_tour-tour.result w c.take_tour-tour.ensures in
     let s = taken_said i c.args.body.now said.length said.bound c.args.budget said.parts.items c.take_tour-tour.new.parts.items c.take_tour-tour.result w t in
     (c.in_ok-tree.ensures (merged (tree_in i.n w.value)) s).fixed
@@ -74,7 +74,7 @@ returns-clause-few c =
     let said = c.in-Ok.said in
     let few : i.n < 2 ^ 32 = search rules in
     let w : IsWhole i c.args.body.now said.length said.bound c.args.budget said.parts.items =
-        whole i c.args.body.now said.length said.bound c.args.budget said.parts.items said.full c.yes_is_body_text.ensures.exact c.yes_is_body_text.ensures.parts few c.in-Ok.ensures.judged c.in-Ok.ensures.said (sym c.has_room.ensures ∙ c.if-not-has_room.false) in
+    whole i c.args.body.now said.length said.bound c.args.budget said.parts.items said.full c.yes_is_body_text.ensures.exact c.yes_is_body_text.ensures.parts few c.in-Ok.ensures.judged c.in-Ok.ensures.said (sym c.has_room.ensures ∙ c.if-not-has_room.false) in
     let t = taken i c.args.body.now said.length said.bound c.args.budget said.parts.items c.take_tour-tour.new.parts.items c.take_tour-tour.result w c.take_tour-tour.ensures in
     let s = taken_said i c.args.body.now said.length said.bound c.args.budget said.parts.items c.take_tour-tour.new.parts.items c.take_tour-tour.result w t in
     few_read i c.args.budget c.args.body.now said.length said.bound said.parts.items c.take_tour-tour.new.parts.items c.take_tour-tour.result _ c.in_ok-tree.tree w t (c.in_ok-tree.ensures (merged (tree_in i.n w.value)) s)
