@@ -1,7 +1,7 @@
 //! Bodies that are read, and bodies that are refused.
 
 mod refused;
-mod taken;
+mod resumed;
 
 use crate::{ReadError, read};
 use cyc::Tour;
