@@ -3,14 +3,15 @@
 
   bench/resume.py [MEGABYTES] [CITIES]        a body of at least so many megabytes (100), of an instance of so many cities (2000)
 
-All distances are 10, so the duals of half of that for each city close each node. The body is a chain of splits by the pairs of city 1, and
-then of city 2, whose leaves but one are closed. With a budget of 0 nothing is searched: the body is read, each leaf priced anew, and the
-body saved again.
+All distances are 10, so the duals of half of that for each city close each node. The body is a chain of splits by one pair after the
+other, whose leaves but one are closed. With a budget of 0 nothing is searched: the body is read, each leaf priced anew, and the
+body saved again. Times are those of the processor.
 """
+import resource
 import subprocess
 import sys
 import tempfile
-import time
+from itertools import islice
 from pathlib import Path
 
 TOP = Path(__file__).resolve().parent.parent
@@ -31,18 +32,24 @@ def body(n, size):
     tour = " ".join(str(c) for c in range(1, n + 1))
     front = f"TSPCERT 1\nN {n}\nLENGTH {10 * n}\nTOUR {tour}\nCUTS 0\n"
     leaf = f"L {n} 0 0\n" + "".join(f"P {c} {5 * LENGTH}\n" for c in range(1, n + 1))
-    pairs = [(1, v) for v in range(2, n - 1)] + [(2, v) for v in range(3, n - 1)]
-    splits = pairs[:min(len(pairs), size // len(leaf) + 1)] if size else []
+    pairs = ((u, v) for u in range(1, n) for v in range(u + 1, n + 1))
+    splits = list(islice(pairs, size // len(leaf) + 1)) if size else []
     return front + "".join(f"E {u} {v}\n" for u, v in splits) + "O\n" + leaf * len(splits), len(splits)
+
+
+def spent():
+    """The processor's seconds of all runs so far."""
+    use = resource.getrusage(resource.RUSAGE_CHILDREN)
+    return use.ru_utime + use.ru_stime
 
 
 def timed(room, text):
     data = text.encode()
     (room / "restart.0").write_bytes(bytes([1, 0]) + len(data).to_bytes(8, "big") + data)
     (room / "restart.1").unlink(missing_ok=True)
-    begun = time.time()
+    begun = spent()
     run = subprocess.run([program("tspc"), "solve", str(room / "equal.tsp"), str(room / "proof"), str(room / "restart"), "--resume", "--budget", "0"], stdout=subprocess.PIPE)
-    took = time.time() - begun
+    took = spent() - begun
     if run.returncode != 5:
         sys.exit(f"status {run.returncode}: {run.stdout.decode()[:80]}")
     if (room / "restart.1").read_bytes()[10:10 + len(data)] != data:
