@@ -7,11 +7,11 @@ _tspc() {
         return
     fi
     case $last in
-    --budget | --seed) return ;;
+    --budget | --seed | --gap | --grunts | --lose) return ;;
     esac
     if [[ $word == -* ]]; then
         case ${COMP_WORDS[1]} in
-        solve) mapfile -t COMPREPLY < <(compgen -W '--budget --seed --resume --gap' -- "$word") ;;
+        solve) mapfile -t COMPREPLY < <(compgen -W '--budget --seed --resume --gap --grunts --lose --twice --late' -- "$word") ;;
         tour) mapfile -t COMPREPLY < <(compgen -W '--seed' -- "$word") ;;
         esac
     elif [ "${COMP_WORDS[1]}" != bench ]; then

@@ -8,4 +8,8 @@ complete -c tspc -n "not __fish_seen_subcommand_from $commands" -a bench -d 'Sol
 complete -c tspc -n '__fish_seen_subcommand_from solve' -l budget -x -d 'Nodes to close or split at most'
 complete -c tspc -n '__fish_seen_subcommand_from solve' -l resume -d 'Go on from the restart body'
 complete -c tspc -n '__fish_seen_subcommand_from solve' -l gap -x -d 'By how much the tour may miss a shortest one'
+complete -c tspc -n '__fish_seen_subcommand_from solve' -l grunts -x -d 'Threads that work on nodes'
+complete -c tspc -n '__fish_seen_subcommand_from solve' -l lose -x -d 'Throw away the reports on so many nodes'
+complete -c tspc -n '__fish_seen_subcommand_from solve' -l twice -d 'Post each report twice'
+complete -c tspc -n '__fish_seen_subcommand_from solve' -l late -d 'Post each report late'
 complete -c tspc -n '__fish_seen_subcommand_from solve tour' -l seed -x -d 'Seed of the tour search'

@@ -308,3 +308,28 @@ fn slots_over_real_files(rt: HostRuntime) -> Result<(), Fail> {
     fs::remove_file(&rt, "slots_test.1")?;
     Ok(())
 }
+
+#[test]
+fn leases_have_the_fates_of_plain_rules(rt: HostRuntime) -> Result<(), Fail> {
+    let plain = PlainPosts {
+        lose: 2,
+        twice: true,
+        late: false,
+    };
+    assert_eq!(rt; plain.fate(0), Fate::Never);
+    assert_eq!(rt; plain.fate(1), Fate::Never);
+    assert_eq!(rt; plain.fate(2), Fate::Twice);
+    let late = PlainPosts {
+        lose: 0,
+        twice: true,
+        late: true,
+    };
+    assert_eq!(rt; late.fate(0), Fate::Late);
+    assert_eq!(rt; Fate::Once.worse(Fate::Twice), Fate::Twice);
+    assert_eq!(rt; Fate::Late.worse(Fate::Twice), Fate::Late);
+    assert_eq!(rt; Fate::Late.worse(Fate::Never), Fate::Never);
+    assert_eq!(rt; Fate::Once.worse(Fate::Once), Fate::Once);
+    OpenGate.pass(1, 0, Point::BeforeAsk);
+    OpenGate.stands(40, 1, 0, Some(0));
+    Ok(())
+}

@@ -26,9 +26,9 @@ use Rattle.tspengine.proofs.Rounds.{splits_kept, same_start, few_kept, search_on
 
 -- ---- a boss at its start to which a tour was offered
 
-pub offered_search : (i : Instance) (t : trees.Table) (tour : List ℕ) (budget gap : ℕ) (b new : Book) (reply : Offered) (near : Near) → IsStart i t tour budget 1 gap b → length t.nodes + 2 * budget ≤ 1048576
+pub offered_search : (i : Instance) (t : trees.Table) (tour : List ℕ) (budget grunts gap : ℕ) (b new : Book) (reply : Offered) (near : Near) → IsStart i t tour budget grunts gap b → length t.nodes + 2 * budget ≤ 1048576
     → IsSplitBy IsNeededSplit b → IsChargedFor b new (heard.Offered reply) → near.n ≡ i.n → IsSearchFrom i budget gap (tree_of t.nodes) (length_in i tour) (record { boss = new; near = near })
-offered_search i t tour budget gap b new reply near is few by charged cities =
+offered_search i t tour budget grunts gap b new reply near is few by charged cities =
     let same = charged.start in
     let old : length b.start.nodes + 2 * b.budget ≤ 1048576 =
     subst (λ (s : books.Start). length s.nodes + 2 * b.budget ≤ 1048576) (sym is.start) (subst (λ (k : ℕ). length t.nodes + 2 * k ≤ 1048576) (sym is.budget) few) in

@@ -15,7 +15,7 @@ use Rattle.tspengine.specs.Solving.{Solves}
 use Rattle.tspengine.specs.Verifying.{paths_of, Verifies}
 use Rattle.tspengine.specs.Touring.{Tours}
 use Rattle.tspengine.specs.Benching.{Benches}
-use Rattle.tspengine.specs.Usages.{Uses}
+use Rattle.tspengine.specs.Usages.{IsUnserved, Uses}
 use Rattle.tspengine.specs.Runs.{Ends, HasCauses}
 use Rattle.tspengine.specs.declared.statuses.Status.{Status}
 use Rattle.tspengine.specs.declared.statuses.Status.TheVariants as status
@@ -64,6 +64,78 @@ verify_or_bench words a b = verify_not_bench (sym a.named ∙ b.named)
 tour_or_bench : (words : List Text) → IsTourCall words → IsBenchCall words → ⊥
 tour_or_bench words a b = tour_not_bench (sym a.named ∙ b.named)
 
+-- words of a command that is served are no others
+rest_of : (m : ℕ) (xs ys : List ℕ) → m ∷ xs ≡ m ∷ ys → xs ≡ ys
+rest_of m xs ys e = cc
+
+solve_not_replay : codes "solve" ≡ codes "replay" → ⊥
+solve_not_replay e = apart 115 114 (codes "olve") (codes "eplay") (inr (omega arith)) e
+
+solve_not_bound : codes "solve" ≡ codes "bound" → ⊥
+solve_not_bound e = apart 115 98 (codes "olve") (codes "ound") (inr (omega arith)) e
+
+solve_not_checkbound : codes "solve" ≡ codes "checkbound" → ⊥
+solve_not_checkbound e = apart 115 99 (codes "olve") (codes "heckbound") (inr (omega arith)) e
+
+verify_not_replay : codes "verify" ≡ codes "replay" → ⊥
+verify_not_replay e = apart 118 114 (codes "erify") (codes "eplay") (inr (omega arith)) e
+
+verify_not_bound : codes "verify" ≡ codes "bound" → ⊥
+verify_not_bound e = apart 118 98 (codes "erify") (codes "ound") (inr (omega arith)) e
+
+verify_not_checkbound : codes "verify" ≡ codes "checkbound" → ⊥
+verify_not_checkbound e = apart 118 99 (codes "erify") (codes "heckbound") (inr (omega arith)) e
+
+tour_not_replay : codes "tour" ≡ codes "replay" → ⊥
+tour_not_replay e = apart 116 114 (codes "our") (codes "eplay") (inr (omega arith)) e
+
+tour_not_bound : codes "tour" ≡ codes "bound" → ⊥
+tour_not_bound e = apart 116 98 (codes "our") (codes "ound") (inr (omega arith)) e
+
+tour_not_checkbound : codes "tour" ≡ codes "checkbound" → ⊥
+tour_not_checkbound e = apart 116 99 (codes "our") (codes "heckbound") (inr (omega arith)) e
+
+bench_not_replay : codes "bench" ≡ codes "replay" → ⊥
+bench_not_replay e = apart 98 114 (codes "ench") (codes "eplay") (inl (omega arith)) e
+
+bench_not_bound : codes "bench" ≡ codes "bound" → ⊥
+bench_not_bound e = apart 101 111 (codes "nch") (codes "und") (inl (omega arith)) (rest_of 98 (codes "ench") (codes "ound") e)
+
+bench_not_checkbound : codes "bench" ≡ codes "checkbound" → ⊥
+bench_not_checkbound e = apart 98 99 (codes "ench") (codes "heckbound") (inl (omega arith)) e
+
+solve_is_served : (words : List Text) → IsSolveCall words → IsUnserved words → ⊥
+solve_is_served words a u = elim u [
+  | inl b ↦ solve_not_replay (sym a.named ∙ b.named)
+  | inr (inl b) ↦ solve_not_bound (sym a.named ∙ b.named)
+  | inr (inr (inl b)) ↦ solve_not_checkbound (sym a.named ∙ b.named)
+  | inr (inr (inr none)) ↦ none a.taken
+]
+
+verify_is_served : (words : List Text) → IsVerifyCall words → IsUnserved words → ⊥
+verify_is_served words a u = elim u [
+  | inl b ↦ verify_not_replay (sym a.named ∙ b.named)
+  | inr (inl b) ↦ verify_not_bound (sym a.named ∙ b.named)
+  | inr (inr (inl b)) ↦ verify_not_checkbound (sym a.named ∙ b.named)
+  | inr (inr (inr none)) ↦ none a.taken
+]
+
+tour_is_served : (words : List Text) → IsTourCall words → IsUnserved words → ⊥
+tour_is_served words a u = elim u [
+  | inl b ↦ tour_not_replay (sym a.named ∙ b.named)
+  | inr (inl b) ↦ tour_not_bound (sym a.named ∙ b.named)
+  | inr (inr (inl b)) ↦ tour_not_checkbound (sym a.named ∙ b.named)
+  | inr (inr (inr none)) ↦ none a.taken
+]
+
+bench_is_served : (words : List Text) → IsBenchCall words → IsUnserved words → ⊥
+bench_is_served words a u = elim u [
+  | inl b ↦ bench_not_replay (sym a.named ∙ b.named)
+  | inr (inl b) ↦ bench_not_bound (sym a.named ∙ b.named)
+  | inr (inr (inl b)) ↦ bench_not_checkbound (sym a.named ∙ b.named)
+  | inr (inr (inr none)) ↦ none a.taken
+]
+
 pub ends_solve : (s : Status) (c : Call) → IsSolveCall c.words → Solves s c → Ends s c
 ends_solve s c call ends = record {
   words = inl call;
@@ -71,7 +143,7 @@ ends_solve s c call ends = record {
   verify = λ other. absurd (solve_or_verify c.words call other);
   tour = λ other. absurd (solve_or_tour c.words call other);
   bench = λ other. absurd (solve_or_bench c.words call other);
-  usage = λ none. absurd (none call.taken);
+  usage = λ other. absurd (solve_is_served c.words call other);
 }
 
 pub ends_verify : (s : Status) (c : Call) → IsVerifyCall c.words → Verifies s c → Ends s c
@@ -81,7 +153,7 @@ ends_verify s c call ends = record {
   verify = λ _. ends;
   tour = λ other. absurd (verify_or_tour c.words call other);
   bench = λ other. absurd (verify_or_bench c.words call other);
-  usage = λ none. absurd (none call.taken);
+  usage = λ other. absurd (verify_is_served c.words call other);
 }
 
 pub ends_tour : (s : Status) (c : Call) → IsTourCall c.words → Tours s c → Ends s c
@@ -91,7 +163,7 @@ ends_tour s c call ends = record {
   verify = λ other. absurd (verify_or_tour c.words other call);
   tour = λ _. ends;
   bench = λ other. absurd (tour_or_bench c.words call other);
-  usage = λ none. absurd (none call.taken);
+  usage = λ other. absurd (tour_is_served c.words call other);
 }
 
 pub ends_bench : (s : Status) (c : Call) → IsBenchCall c.words → Benches s c → Ends s c
@@ -101,16 +173,16 @@ ends_bench s c call ends = record {
   verify = λ other. absurd (verify_or_bench c.words other call);
   tour = λ other. absurd (tour_or_bench c.words other call);
   bench = λ _. ends;
-  usage = λ none. absurd (none call.taken);
+  usage = λ other. absurd (bench_is_served c.words call other);
 }
 
-pub ends_usage : (s : Status) (c : Call) → ¬ IsTaken c.words → Uses s c → Ends s c
+pub ends_usage : (s : Status) (c : Call) → IsUnserved c.words → Uses s c → Ends s c
 ends_usage s c none ends = record {
   words = inr (inr (inr (inr none)));
-  solve = λ call. absurd (none call.taken);
-  verify = λ call. absurd (none call.taken);
-  tour = λ call. absurd (none call.taken);
-  bench = λ call. absurd (none call.taken);
+  solve = λ call. absurd (solve_is_served c.words call none);
+  verify = λ call. absurd (verify_is_served c.words call none);
+  tour = λ call. absurd (tour_is_served c.words call none);
+  bench = λ call. absurd (bench_is_served c.words call none);
   usage = λ _. ends;
 }
 
@@ -120,18 +192,21 @@ empty_or_not : {A : Type 0} (xs : List A) → (xs ≡ []) ⊎ ¬ (xs ≡ [])
 empty_or_not [] = inl refl
 empty_or_not (x ∷ xs) = inr (λ (e : (x ∷ xs) ≡ []). cc)
 
-which_call : (words : List Text) → TakenWordsAreGiven → IsTaken words → IsSolveCall words ⊎ IsVerifyCall words ⊎ IsTourCall words ⊎ IsBenchCall words ⊎ ¬ IsTaken words
+which_call : (words : List Text) → TakenWordsAreGiven → IsTaken words → IsSolveCall words ⊎ IsVerifyCall words ⊎ IsTourCall words ⊎ IsBenchCall words ⊎ IsUnserved words
 which_call words given taken = elim (given words taken) [
   | inl x ↦ inl x.named
   | inr (inl x) ↦ inr (inl x.named)
   | inr (inr (inl x)) ↦ inr (inr (inl x.named))
-  | inr (inr (inr x)) ↦ inr (inr (inr (inl x.named)))
+  | inr (inr (inr (inl x))) ↦ inr (inr (inr (inl x.named)))
+  | inr (inr (inr (inr (inl x)))) ↦ inr (inr (inr (inr (inl x.named))))
+  | inr (inr (inr (inr (inr (inl x))))) ↦ inr (inr (inr (inr (inr (inl x.named)))))
+  | inr (inr (inr (inr (inr (inr x))))) ↦ inr (inr (inr (inr (inr (inr (inl x.named))))))
 ]
 
-pub which_words : (words : List Text) → TakenWordsAreGiven → IsSolveCall words ⊎ IsVerifyCall words ⊎ IsTourCall words ⊎ IsBenchCall words ⊎ ¬ IsTaken words
+pub which_words : (words : List Text) → TakenWordsAreGiven → IsSolveCall words ⊎ IsVerifyCall words ⊎ IsTourCall words ⊎ IsBenchCall words ⊎ IsUnserved words
 which_words words given = elim (empty_or_not (fault_of program words)) [
   | inl taken ↦ which_call words given taken
-  | inr none ↦ inr (inr (inr (inr none)))
+  | inr none ↦ inr (inr (inr (inr (inr (inr (inr none))))))
 ]
 
 -- ---- who never answers which fault

@@ -7,6 +7,7 @@
 #![tactic(auto)]
 
 mod benching;
+mod crew;
 mod outcomes;
 mod publishing;
 mod running;
@@ -28,6 +29,8 @@ mod changed_bytes;
 mod failing_calls;
 #[cfg(test)]
 mod fixed_edges;
+#[cfg(test)]
+mod meeting_runs;
 #[cfg(test)]
 mod resumed_runs;
 #[cfg(test)]

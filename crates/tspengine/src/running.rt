@@ -3,21 +3,26 @@ ghost use Rattle.std.specs.Prelude.{map, string_bytes};
 ghost use Rattle.tspengine.specs.Runs.{Runs};
 
 use crate::benching::bench;
+use crate::crew::{BothPosts, Crew};
 use crate::solving::solve;
 use crate::statuses::Status;
 use crate::touring::tour;
 use crate::usage::usage;
 use crate::verifying::verify;
-use ports::{Desk, Slots};
+use ports::{Desk, Gate, PlainPosts, Posts, Slots};
 use resume_form::bodies_have_one_reading;
 use std::alloc::Global;
+use std::sync::Wait;
+use std::thread::Threads;
 use tspwords::{Command, WordsError, read_command, taken_words_are_given};
 
 /// Does what the words of a command line say, of which the first is the program's name, and says how it ended.
 ///
-/// `solve INSTANCE PROOF RESTART [--budget N] [--seed S]` reads the instance, and searches from the tour that `tour` prints for
-/// the same seed, until no node of its tree is open or N of them are settled. In the first case it writes the proof that a tour is
-/// shortest, and prints `OPTIMAL` with the tour; in the second it saves to the slots a body to go on from, and prints `STOPPED`.
+/// `solve INSTANCE PROOF RESTART [--budget N] [--seed S] [--grunts K]` reads the instance, and searches from the tour that `tour` prints
+/// for the same seed, until no node of its tree is open or N of them are settled. K grunts, each in a thread, work on the nodes; what
+/// becomes of their reports is the worse of what `--lose`, `--twice` and `--late` say and what `posts` tells, and they pass `gate`.
+/// In the first case it writes the proof that a tour is shortest, and prints `OPTIMAL` with the tour; in the second it saves to the
+/// slots a body to go on from, and prints `STOPPED`.
 ///
 /// `verify INSTANCE PROOF` reads the instance and then the proof, whoever wrote it, and prints `VERIFIED` and the length of a
 /// shortest tour where the proof is accepted, and else `REFUSED` and its first refusal with the line of it.
@@ -32,12 +37,14 @@ use tspwords::{Command, WordsError, read_command, taken_words_are_given};
 /// Each command has a record of how it ends, by its status (`specs/Runs.antt`); what the statuses of an answer promise stands in
 /// `specs/Headline.antt`. Where the desk or the slots do not tell what they hold, these speak of the counts of faults alone. Only
 /// `solve` touches the slots.
-pub fn run<R, D: Desk, L: Slots>(
-    _rt: &R,
+pub fn run<R: Threads + Wait + Sync, D: Desk, L: Slots, P: Posts + Sync, G: Gate + Sync>(
+    rt: &R,
     alloc: Global,
     words: &[String],
     desk: &mut D,
     slots: &mut L,
+    posts: &P,
+    gate: &G,
 ) -> Status
     ensures { Runs result (record {
       words = map string_bytes words.now;
@@ -62,10 +69,30 @@ pub fn run<R, D: Desk, L: Slots>(
     bodies_have_one_reading();
     taken_words_are_given();
     match read_command(alloc, words) {
-        Ok(Command::Solve(words)) => solve(alloc, &words, desk, slots),
+        Ok(Command::Solve(words)) => {
+            let told = PlainPosts {
+                lose: words.lose,
+                twice: words.twice,
+                late: words.late,
+            };
+            let posts = BothPosts {
+                told: &told,
+                handed: posts,
+            };
+            let crew = Crew {
+                rt,
+                posts: &posts,
+                gate,
+            };
+            solve(&crew, alloc, &words, desk, slots)
+        }
         Ok(Command::Verify(words)) => verify(alloc, &words, desk),
         Ok(Command::Tour(words)) => tour(alloc, &words, desk),
         Ok(Command::Bench(words)) => bench(alloc, &words, desk),
+        // the parser knows these, and no request of them has come yet
+        Ok(Command::Replay(_words)) => usage(desk),
+        Ok(Command::Bound(_words)) => usage(desk),
+        Ok(Command::Checkbound(_words)) => usage(desk),
         Err(WordsError::Usage) => usage(desk),
         Err(WordsError::NoMemory) => Status::NoMemory,
     }
