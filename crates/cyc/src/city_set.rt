@@ -40,6 +40,9 @@ impl From<AllocError> for CitySetError {
     }
 }
 
+/// A set of up to so many cities is looked up in its list and has no marks, so that it is made by one allocation less.
+const FEW: usize = 4;
+
 /// Some of n cities. Contracts see n and the list of the cities, which rises.
 #[derive(Debug, Drop)]
 pub struct CitySet {
@@ -71,7 +74,11 @@ impl CitySet {
         if !is_rising(n, &cities) {
             return Err(CitySetError::NotRising);
         }
-        let members = marks_of(alloc, n, &cities)?;
+        let members = if cities.len() <= FEW {
+            Marks::no_room(alloc)
+        } else {
+            marks_of(alloc, n, &cities)?
+        };
         Ok(CitySet { n, cities, members })
     }
 
@@ -97,7 +104,11 @@ impl CitySet {
     pub fn contains(&self, city: u32) -> bool
         ensures { result ≡ has self.now.cities city }
     {
-        self.members.is_marked(city)
+        if self.cities.len() <= FEW {
+            is_listed(&self.cities, city)
+        } else {
+            self.members.is_marked(city)
+        }
     }
 
     /// Whether the set is neither empty nor all cities.
@@ -154,6 +165,19 @@ fn is_rising(n: u32, cities: &[u32]) -> bool
         least = *city + 1;
     }
     true
+}
+
+/// Whether a city is one of a list.
+#[inline]
+fn is_listed(cities: &[u32], city: u32) -> bool
+    ensures { result ≡ has cities.now city }
+{
+    for listed in cities {
+        if *listed == city {
+            return true;
+        }
+    }
+    false
 }
 
 /// Marks on some cities below `n`.

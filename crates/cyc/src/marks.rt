@@ -28,6 +28,15 @@ impl Marks {
         })
     }
 
+    /// No marks and no room for any, without an allocation.
+    pub fn no_room(alloc: Global) -> Marks
+        ensures none { (city : ℕ) → is_marked result city ≡ false }
+    {
+        Marks {
+            bits: Vec::new(alloc),
+        }
+    }
+
     /// Whether a city is marked.
     #[inline]
     pub fn is_marked(&self, city: u32) -> bool

@@ -58,6 +58,19 @@ fn a_set_knows_its_cities(rt: HostRuntime) -> Result<(), Fail> {
     Ok(())
 }
 
+/// Sets of one city, of four, which have no marks, and of five, which have.
+#[test]
+fn small_sets_know_their_cities(rt: HostRuntime) -> Result<(), Fail> {
+    let one = CitySet::new(rt.alloc(), 2000, vec![in rt.alloc(); 1999]?)?;
+    assert!(rt; one.contains(1999) && !one.contains(0) && !one.contains(1998));
+    let four = CitySet::new(rt.alloc(), 130, vec![in rt.alloc(); 0, 63, 64, 129]?)?;
+    assert!(rt; four.contains(0) && four.contains(64) && four.contains(129) && !four.contains(65));
+    let five = CitySet::new(rt.alloc(), 130, vec![in rt.alloc(); 0, 1, 63, 64, 129]?)?;
+    assert!(rt; five.contains(0) && five.contains(64) && five.contains(129) && !five.contains(65));
+    assert_eq!(rt; five.copy(rt.alloc())?, five);
+    Ok(())
+}
+
 #[test]
 fn copies_are_equal(rt: HostRuntime) -> Result<(), Fail> {
     let tour = four_cities(rt.alloc())?;

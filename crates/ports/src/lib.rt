@@ -28,7 +28,7 @@ pub use file_slots::FileSlots;
 pub use gate::{Gate, OpenGate, Point};
 pub use memory_desk::MemDesk;
 pub use memory_slots::MemSlots;
-pub use posts::{Fate, PlainPosts, Posts, WorsePosts};
+pub use posts::{Fate, PlainPosts, Posts};
 pub use record::{SlotCall, SlotEntry};
 pub use room::Room;
 pub use slots::Slots;

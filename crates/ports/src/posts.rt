@@ -1,6 +1,6 @@
 //! What may befall the reports of grunts on their way: a worker's word for it that a search is right must not be needed.
 ghost use Rattle.std.specs.Prelude.{◌≡◌, ℕ};
-ghost use Rattle.ports.specs.Posts.{plain_fate, worse, MayTell, IsWorseOf};
+ghost use Rattle.ports.specs.Posts.{plain_fate, worse, MayTell};
 
 /// What becomes of a report, from the best to the worst.
 #[derive(Clone, Copy, Debug, PartialEq, Eq)]
@@ -63,30 +63,5 @@ impl Posts for PlainPosts {
         } else {
             Fate::Once
         }
-    }
-}
-
-/// Two posts in a row: the fate of a report is the worse of what both tell.
-pub struct WorsePosts<'a, P: Posts, Q: Posts> {
-    first: &'a P,
-    second: &'a Q,
-}
-
-impl<'a, P: Posts, Q: Posts> WorsePosts<'a, P, Q> {
-    pub fn new(first: &'a P, second: &'a Q) -> WorsePosts<'a, P, Q>
-        ensures first { result.first.now ≡ first.now }
-        ensures second { result.second.now ≡ second.now }
-    {
-        WorsePosts { first, second }
-    }
-}
-
-impl<'a, P: Posts, Q: Posts> Posts for WorsePosts<'a, P, Q> {
-    ghost may_tell = { λ posts. IsWorseOf (P.may_tell posts.first.now) (Q.may_tell posts.second.now) };
-
-    fn fate(&self, lease: u32) -> Fate
-        ensures { IsWorseOf (P.may_tell self.now.first.now) (Q.may_tell self.now.second.now) lease result }
-    {
-        self.first.fate(lease).worse(self.second.fate(lease))
     }
 }
