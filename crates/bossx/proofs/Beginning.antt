@@ -1,5 +1,5 @@
 -- A book at its start.
-use Rattle.std.proofs.Common.{◌≡◌, ℕ, ◌+◌, ◌-◌, ◌*◌, ◌<◌, ◌≤◌, List, [], ◌∷◌, length, refl, sym, ◌∙◌, ap, subst, arith, count_by}
+use Rattle.std.proofs.Common.{◌≡◌, ℕ, ◌+◌, ◌-◌, ◌*◌, ◌<◌, ◌≤◌, List, [], length, refl, sym, ◌∙◌, ap, subst, arith}
 use Rattle.std.specs.Prelude.{ℤ, pos, replicate, vec_capacity}
 use Rattle.std.proofs.lemmas.List.{length-replicate}
 use Rattle.tspdef.specs.Instances.{Instance, IsInstance, IsTourOf, length_in}
@@ -10,10 +10,10 @@ use Rattle.leasebook.specs.declared.lease.Lease.{Lease}
 use Rattle.leasebook.specs.declared.lease.Entry.{Entry}
 use Rattle.leasebook.specs.Log.{Table}
 use Rattle.bossx.specs.Books.{Book}
-use Rattle.bossx.specs.Kept.{IsBook, IsTreeOf, IsCharged, HasRoom}
+use Rattle.bossx.specs.Kept.{IsBook}
 use Rattle.bossx.specs.Answers.{AreOpenBelow}
 use Rattle.bossx.specs.declared.boss.Boss.TheInside.{Inside}
-use Rattle.bossx.specs.BossInside.{book_of, AreFree, IsWellKept}
+use Rattle.bossx.specs.BossInside.{AreFree, IsWellKept}
 use Rattle.bossx.proofs.FreeLemmas.{first_free}
 
 abbrev pub begun : Instance → trees.Table → Table → List ℕ → ℕ → ℕ → ℕ → Book

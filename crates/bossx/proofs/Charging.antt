@@ -1,18 +1,16 @@
 -- What each event is charged with.
-use Rattle.std.proofs.Common.{◌≡◌, ℕ, ◌+◌, ◌<◌, ◌≤◌, Bool, true, false, cond, Option, Some, None, List, [], ◌∷◌, ◌++◌, length, refl, sym, ◌∙◌, arith, length-set, length-append}
+use Rattle.std.proofs.Common.{◌≡◌, ℕ, ◌≤◌, Bool, true, false, cond, Option, Some, None, [], ◌∷◌, length, refl, ◌∙◌, arith, length-set, length-append}
 use Rattle.std.proofs.lemmas.List.Sums.{sum_by-cons}
 use Rattle.leasebook.specs.declared.lease.LeaseFate.{LeaseFate}
-use Rattle.leasebook.specs.declared.lease.Lease.{Lease}
 use Rattle.leasebook.specs.declared.lease.LeaseFate.TheVariants.{Lost}
-use Rattle.leasebook.specs.declared.lease.Entry.TheVariants.{End, Take}
+use Rattle.leasebook.specs.declared.lease.Entry.TheVariants.{Take}
 use Rattle.leasebook.specs.Leases.{is_held, lease_at, of_grunt, of_node}
-use Rattle.leasebook.specs.Log.{Table, entered, leases_after, new_lease}
+use Rattle.leasebook.specs.Log.{Table, entered, new_lease}
 use Rattle.bossx.specs.declared.brought.Brought.{Brought}
 use Rattle.bossx.specs.declared.brought.Brought.TheVariants.{Plain}
-use Rattle.bossx.specs.declared.replies.Asked.TheVariants as told
 use Rattle.bossx.specs.declared.replies.Reported.TheVariants as judged
-use Rattle.bossx.specs.Books.{Book, best_length, lost, lost_if, released, dropped, granted, taken, table_after, end_by, content_of, is_split, fate_by, node_of, with_best}
-use Rattle.bossx.specs.Steps.{Run, run_ends, run_goes_on, Step, ask_done, ask_spent, ask_home, ask_not_yet, ask_leased, report_unknown, report_stale, report_spent, report_misfit, report_weak, report_taken, own_stale, own_spent, own_misfit, own_weak, own_taken, gone_idle, gone_lost, expire_unknown, expire_ended, expire_lost, offer_other_size, offer_off_fixed, offer_not_shorter, offer_better}
+use Rattle.bossx.specs.Books.{Book, best_length, lost, lost_if, released, dropped, taken, table_after, end_by, content_of, is_split, fate_by, node_of}
+use Rattle.bossx.specs.Steps.{run_ends, run_goes_on, ask_done, ask_spent, ask_home, ask_not_yet, ask_leased, report_unknown, report_stale, report_spent, report_misfit, report_weak, report_taken, own_stale, own_spent, own_misfit, own_weak, own_taken, gone_idle, gone_lost, expire_unknown, expire_ended, expire_lost, offer_other_size, offer_off_fixed, offer_not_shorter, offer_better}
 use Rattle.bossx.specs.Laws.{IsSameStart, IsChargedFor, StepsCharge, RunsCharge, taken_with, granted_with}
 use Rattle.bossx.specs.declared.events.Reply.{Reply}
 use Rattle.bossx.specs.declared.events.Reply.TheVariants as heard

@@ -1,14 +1,13 @@
 -- No event has a choice: what is answered, and what book is left, is determined.
-use Rattle.std.proofs.Common.{◌≡◌, ◌≢◌, ℕ, zero, suc, ◌+◌, ◌<◌, ◌≤◌, Bool, true, false, ◌⊎◌, inl, inr, ⊎_elim, Option, Some, None, List, [], ◌∷◌, length, refl, sym, ◌∙◌, ap, subst, arith}
-use Rattle.std.specs.Prelude.{ℤ, ◌<ℤ◌, ◌≤ℤ◌, slice_get, take}
+use Rattle.std.proofs.Common.{◌≡◌, ℕ, zero, suc, ◌<◌, ◌≤◌, true, ◌⊎◌, inl, inr, ⊎_elim, Option, Some, None, List, [], ◌∷◌, length, refl, sym, ◌∙◌, ap, subst, arith}
+use Rattle.std.specs.Prelude.{ℤ, slice_get, take}
 use Rattle.std.proofs.lemmas.Int.{ints}
 use Rattle.std.proofs.lemmas.Bool.{cases_lt, cases_eq, false≢true}
 use Rattle.tspdef.specs.Tours.{steps, has_step}
 use Rattle.tspdef.specs.Fixed.{AreSteps}
 use Rattle.tspdef.specs.Paths.{Condition}
 use Rattle.tspdef.specs.Closings.{Closing, Fits, IsMisfit}
-use Rattle.leasebook.specs.Leases.{is_held, lease_at, of_grunt}
-use Rattle.tournament.specs.Places.{ComesFirst}
+use Rattle.leasebook.specs.Leases.{of_grunt}
 use Rattle.branchx.specs.declared.branch.Branch.{Branch}
 use Rattle.branchx.specs.declared.branch.Branch.TheVariants.{Edge, Clique}
 use Rattle.pricer.specs.declared.closing.Report.{Report}
@@ -19,10 +18,9 @@ use Rattle.bossx.specs.declared.replies.Asked.{Asked}
 use Rattle.bossx.specs.declared.replies.Asked.TheVariants as told
 use Rattle.bossx.specs.declared.replies.Reported.{Reported}
 use Rattle.bossx.specs.declared.replies.Reported.TheVariants as judged
-use Rattle.bossx.specs.declared.replies.Expiry.TheVariants as ends
 use Rattle.bossx.specs.declared.replies.Offered.TheVariants as tours
-use Rattle.bossx.specs.Books.{Book, best_length, key_at, node_of, content_of, released, granted, lost}
-use Rattle.bossx.specs.Judging.{BranchFits, IsBranchMisfit, ReportFits, IsReportMisfit, BroughtFits, IsMisfitOf, IsWeak, Suffices, IsJudged}
+use Rattle.bossx.specs.Books.{Book, best_length, node_of, content_of, released, granted, lost}
+use Rattle.bossx.specs.Judging.{BranchFits, IsBranchMisfit, BroughtFits, IsMisfitOf, IsWeak, Suffices, IsJudged}
 use Rattle.bossx.specs.Answers.{IsAnswer, reported_after, own_after}
 use Rattle.bossx.specs.Steps.{IsFirstFree, IsFirstOff, Run, run_ends, run_goes_on, Step, ask_done, ask_spent, ask_home, ask_not_yet, ask_leased, report_unknown, report_stale, report_spent, report_misfit, report_weak, report_taken, own_stale, own_spent, own_misfit, own_weak, own_taken, gone_idle, gone_lost, expire_unknown, expire_ended, expire_lost, offer_other_size, offer_off_fixed, offer_not_shorter, offer_better}
 use Rattle.bossx.specs.Laws.{StepsHaveNoChoice, RunsHaveNoChoice}

@@ -1,12 +1,11 @@
 -- A book stays one, whatever events come.
-use Rattle.std.proofs.Common.{◌≡◌, ℕ, ◌+◌, ◌-◌, ◌<◌, ◌≤◌, List, [], ◌∷◌, sym, arith, subst}
+use Rattle.std.proofs.Common.{ℕ, ◌<◌, List, arith}
 use Rattle.tspdef.specs.Instances.{IsTourOf, length_in}
 use Rattle.treebook.specs.Tables.{tree_of}
 use Rattle.treebook.proofs.Covering.{less_is_kept}
 use Rattle.leasebook.proofs.HolderLemmas.{found}
 use Rattle.bossx.specs.Books.{Book, best_length, level, released, with_best, node_of}
-use Rattle.bossx.specs.Judging.{MayBeTaken}
-use Rattle.bossx.specs.Steps.{Step, ask_done, ask_spent, ask_home, ask_not_yet, ask_leased, report_unknown, report_stale, report_spent, report_misfit, report_weak, report_taken, own_stale, own_spent, own_misfit, own_weak, own_taken, gone_idle, gone_lost, expire_unknown, expire_ended, expire_lost, offer_other_size, offer_off_fixed, offer_not_shorter, offer_better, Run, run_ends, run_goes_on}
+use Rattle.bossx.specs.Steps.{ask_done, ask_spent, ask_home, ask_not_yet, ask_leased, report_unknown, report_stale, report_spent, report_misfit, report_weak, report_taken, own_stale, own_spent, own_misfit, own_weak, own_taken, gone_idle, gone_lost, expire_unknown, expire_ended, expire_lost, offer_other_size, offer_off_fixed, offer_not_shorter, offer_better, run_ends, run_goes_on}
 use Rattle.bossx.specs.Kept.{IsBook}
 use Rattle.bossx.specs.Laws.{StepsKeepBooks, RunsKeepBooks, BooksStaySmall}
 use Rattle.bossx.proofs.LendingLemmas.{lost_kept, released_kept, dropped_kept, granted_kept, idle_released}

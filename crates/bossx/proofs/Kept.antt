@@ -1,5 +1,5 @@
 -- What the fields of a boss keep.
-use Rattle.std.proofs.Common.{◌≡◌, ◌≢◌, ℕ, ◌+◌, ◌-◌, ◌*◌, ◌<◌, ◌≤◌, Bool, true, Option, Some, None, List, [], ◌∷◌, length, refl, sym, ◌∙◌, ap, subst, arith, IsTrue, ◌↔◌}
+use Rattle.std.proofs.Common.{◌≡◌, ◌≢◌, ℕ, ◌+◌, ◌<◌, Bool, true, Option, Some, None, List, length, sym, ◌∙◌, ap, subst, arith, IsTrue, ◌↔◌}
 use Rattle.std.specs.Prelude.{ℤ, vec_capacity}
 use Rattle.tspdef.specs.Instances.{Instance, IsTourOf, length_in}
 use Rattle.tspdef.specs.Closings.{Fits}
@@ -21,7 +21,7 @@ use Rattle.leasebook.specs.Leases.{is_held, lease_at, of_grunt, of_node}
 use Rattle.leasebook.specs.Log.{Table, entered, held}
 use Rattle.bossx.specs.declared.brought.Brought.{Brought}
 use Rattle.bossx.specs.declared.boss.Boss.TheInside.{Inside}
-use Rattle.bossx.specs.Books.{Book, best_length, level, path_in, key_at, content_of, key_from, is_split, fate_by, tree_after, keys_after, table_after, taken}
+use Rattle.bossx.specs.Books.{Book, best_length, level, path_in, key_at, content_of, key_from, is_split, fate_by, tree_after, keys_after, table_after}
 use Rattle.bossx.specs.Judging.{IsAtHome, IsNewSet, MayBeTaken}
 use Rattle.bossx.specs.Steps.{IsNext, count_open, count_lost}
 use Rattle.bossx.specs.Answers.{key_after}

@@ -1,6 +1,5 @@
 -- What a book keeps as leases come and end.
-use Rattle.std.proofs.Common.{◌≡◌, ℕ, ◌+◌, ◌<◌, ◌≤◌, Bool, true, false, cond, Option, Some, None, List, [], ◌∷◌, ◌++◌, length, get_or, set, sym, ◌∙◌, ap, subst, arith, ⊎_elim, refl, length-set, length-append, count_by}
-use Rattle.std.specs.List.{AllPairs}
+use Rattle.std.proofs.Common.{◌≡◌, ℕ, ◌+◌, ◌<◌, Bool, true, false, cond, Option, Some, None, List, [], ◌∷◌, ◌++◌, length, set, sym, ◌∙◌, ap, subst, arith, ⊎_elim, refl, length-set, length-append, count_by}
 use Rattle.std.proofs.lemmas.List.{get_or-set_same, get_or-set_other, get_or_append_left}
 use Rattle.std.proofs.lemmas.Bool.{cases_lt, cases_eq}
 use Rattle.std.proofs.lemmas.Grind.{common_steps}
@@ -8,14 +7,14 @@ use Rattle.treebook.specs.Tables.{Node, IsOpen}
 use Rattle.leasebook.specs.declared.lease.LeaseFate.{LeaseFate}
 use Rattle.leasebook.specs.declared.lease.LeaseFate.TheVariants.{Held, Closed, Split, Lost}
 use Rattle.leasebook.specs.declared.lease.Lease.{Lease}
-use Rattle.leasebook.specs.declared.lease.Entry.TheVariants.{Grant, End, Take}
-use Rattle.leasebook.specs.Leases.{is_held, is_held_fate, is_lost, is_lost_fate, lease_at, no_lease, of_grunt, of_node, Apart}
-use Rattle.leasebook.specs.Log.{Replayed, after, new_lease, leases_after, held, entered}
+use Rattle.leasebook.specs.declared.lease.Entry.TheVariants.{Grant, End}
+use Rattle.leasebook.specs.Leases.{is_held, is_held_fate, is_lost, is_lost_fate, lease_at, no_lease, of_grunt}
+use Rattle.leasebook.specs.Log.{Replayed, after, new_lease, leases_after}
 use Rattle.leasebook.proofs.LogLemmas.{entries_act}
-use Rattle.leasebook.proofs.HolderLemmas.{found, apart_granted, apart_ended, counts_granted, counts_ended, none_after_end, others_after_end, nodes_differ, grunts_differ, others_granted, held_by_granted}
+use Rattle.leasebook.proofs.HolderLemmas.{found, apart_granted, apart_ended, counts_granted, counts_ended, none_after_end, grunts_differ}
 use Rattle.bossx.specs.Books.{Book, lost, lost_if, released, granted, dropped}
 use Rattle.bossx.specs.Steps.{IsNext}
-use Rattle.bossx.specs.Kept.{IsBook, IsCharged}
+use Rattle.bossx.specs.Kept.{IsBook}
 
 -- ---- a lease ends
 

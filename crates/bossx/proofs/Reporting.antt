@@ -1,8 +1,7 @@
 -- Reports of those who priced a closing, or worked on a node.
-use Rattle.std.proofs.Common.{◌≡◌, ℕ, ◌+◌, ◌-◌, ◌<◌, ◌≤◌, Some, None, List, length, sym, subst, arith, ◌↔◌}
-use Rattle.std.specs.Prelude.{ℤ, ◌<ℤ◌, min}
+use Rattle.std.proofs.Common.{ℕ, ◌-◌, ◌≤◌, Some, None, List, sym, subst, arith}
+use Rattle.std.specs.Prelude.{ℤ, min}
 use Rattle.std.proofs.lemmas.Int.{ints}
-use Rattle.tspdef.specs.Closings.{Closing, Fits}
 use Rattle.tspdef.specs.Instances.{IsTourOf, length_in}
 use Rattle.branchx.specs.declared.branch.Branch.{Branch}
 use Rattle.pricer.specs.declared.closing.Report.{Report}

@@ -1,14 +1,14 @@
 -- That the room of a book suffices.
-use Rattle.std.proofs.Common.{◌≡◌, ℕ, ◌+◌, ◌*◌, ◌<◌, ◌≤◌, ◌^◌, Bool, true, Option, Some, None, List, [], ◌∷◌, ◌++◌, length, refl, sym, ◌∙◌, ap, subst, arith, length-append, count_by, IfSome}
+use Rattle.std.proofs.Common.{◌≡◌, ℕ, ◌+◌, ◌*◌, ◌<◌, ◌≤◌, Bool, true, Option, Some, None, List, [], ◌∷◌, length, refl, arith, length-append, IfSome}
 use Rattle.leasebook.specs.declared.lease.LeaseFate.{LeaseFate}
-use Rattle.leasebook.specs.declared.lease.Entry.TheVariants.{Grant, End, Take}
-use Rattle.leasebook.specs.Leases.{is_held, is_lost, lease_at, of_node}
-use Rattle.leasebook.specs.Log.{Table, entered, held}
+use Rattle.leasebook.specs.declared.lease.Entry.TheVariants.{Take}
+use Rattle.leasebook.specs.Leases.{is_held, lease_at, of_node}
+use Rattle.leasebook.specs.Log.{Table, entered}
 use Rattle.leasebook.proofs.HolderLemmas.{found}
 use Rattle.pricer.specs.declared.closing.Report.{Report}
 use Rattle.pricer.specs.declared.closing.Report.TheVariants as content
 use Rattle.bossx.specs.declared.brought.Brought.{Brought}
-use Rattle.bossx.specs.Books.{Book, lost, granted, with_best, taken, tree_after, table_after, content_of, fate_by, is_split, end_by}
+use Rattle.bossx.specs.Books.{Book, lost, granted, with_best, taken, tree_after, table_after, content_of, fate_by, is_split}
 use Rattle.bossx.specs.Kept.{IsBook, HasRoom}
 use Rattle.bossx.proofs.LendingLemmas.{some_held}
 

@@ -1,9 +1,6 @@
 -- Answers of calls as rows of the table of steps.
-use Rattle.std.proofs.Common.{◌≡◌, ℕ, ◌+◌, ◌<◌, ◌≤◌, true, false, cond, Option, Some, None, List, length, refl, sym, subst, ap, ◌∙◌, length-set}
-use Rattle.std.specs.Prelude.{ℤ}
-use Rattle.leasebook.specs.declared.lease.Entry.TheVariants.{End}
+use Rattle.std.proofs.Common.{◌≡◌, ℕ, ◌<◌, Option, Some, None, length, refl, sym, subst, ◌∙◌, length-set}
 use Rattle.leasebook.specs.Leases.{of_grunt}
-use Rattle.treebook.specs.Tables.{IsOpen}
 use Rattle.pricer.specs.declared.closing.Report.{Report}
 use Rattle.bossx.specs.declared.brought.Brought.{Brought}
 use Rattle.bossx.specs.declared.brought.Brought.TheVariants.{Plain}
@@ -11,10 +8,10 @@ use Rattle.bossx.specs.declared.replies.Asked.{Asked}
 use Rattle.bossx.specs.declared.replies.Asked.TheVariants as told
 use Rattle.bossx.specs.declared.replies.Reported.{Reported}
 use Rattle.bossx.specs.declared.replies.Reported.TheVariants as judged
-use Rattle.bossx.specs.Books.{Book, node_of, lost, lost_if, released, granted, dropped, taken, best_length}
+use Rattle.bossx.specs.Books.{Book, node_of, lost_if, released, granted, best_length}
 use Rattle.bossx.specs.Judging.{IsJudged}
 use Rattle.bossx.specs.Answers.{IsAnswer, reported_after, own_after}
-use Rattle.bossx.specs.Steps.{Step, IsAtWork, IsNext, AllIsLent, ask_done, ask_spent, ask_home, ask_not_yet, ask_leased, report_unknown, report_stale, report_spent, report_misfit, report_weak, report_taken, own_stale, own_spent, own_misfit, own_weak, own_taken, gone_idle, gone_lost, count_open}
+use Rattle.bossx.specs.Steps.{Step, ask_done, ask_spent, ask_home, ask_not_yet, ask_leased, report_stale, report_spent, report_misfit, report_weak, report_taken, own_stale, own_spent, own_misfit, own_weak, own_taken, gone_idle, gone_lost, count_open}
 use Rattle.bossx.specs.declared.events.Event.TheVariants as event
 use Rattle.bossx.specs.declared.events.Reply.TheVariants as heard
 

@@ -1,19 +1,18 @@
 -- What a book keeps as nodes are closed and split.
-use Rattle.std.proofs.Common.{◌≡◌, ◌≢◌, ℕ, ◌+◌, ◌*◌, ◌<◌, ◌≤◌, Bool, true, false, cond, ◌==◌, Option, Some, None, List, [], ◌∷◌, ◌++◌, length, map, get_or, set, sym, ◌∙◌, ap, subst, arith, ◌⊎◌, inl, inr, ⊎_elim, refl, length-set, length-append, count_by}
+use Rattle.std.proofs.Common.{◌≡◌, ◌≢◌, ℕ, ◌+◌, ◌<◌, ◌≤◌, Bool, true, false, cond, ◌==◌, Option, Some, None, List, [], ◌∷◌, ◌++◌, length, set, sym, ◌∙◌, ap, subst, arith, refl, length-append}
 use Rattle.std.specs.Prelude.{ℤ, ◌<ℤ◌}
 use Rattle.std.specs.List.{AllPairs}
 use Rattle.std.proofs.lemmas.List.{map-set, map-append}
-use Rattle.std.proofs.lemmas.Bool.{cases_lt, cases_eq}
 use Rattle.tspdef.specs.Instances.{Instance}
 use Rattle.tspdef.specs.Paths.{Condition}
 use Rattle.tspdef.specs.Bounds.{bound, needed}
 use Rattle.tspdef.specs.Closings.{Fits}
 use Rattle.tspdef.specs.Trees.{settled, IsSoundFor}
 use Rattle.tspdef.proofs.Duality.{fitting_is_closing}
-use Rattle.treebook.specs.Tables.{Node, open_node, closed_node, split_node, open_under, state_at, parent_at, path_at, tree_of, IsTable, IsOpen, MaySplit, closed_at, split_at, with_state}
+use Rattle.treebook.specs.Tables.{Node, closed_node, split_node, open_under, state_at, parent_at, path_at, tree_of, IsTable, IsOpen, MaySplit, with_state}
 use Rattle.treebook.specs.Tree.{branch_of}
 use Rattle.treebook.specs.Tree as trees
-use Rattle.treebook.proofs.Growing.{Grows, closed_grows, closed_length, state_set, split_grows, split_length, closing_keeps_tables, splitting_keeps_tables}
+use Rattle.treebook.proofs.Growing.{closed_grows, closed_length, split_grows, split_length, closing_keeps_tables, splitting_keeps_tables}
 use Rattle.treebook.proofs.Covering.{closing_keeps_sound, splitting_keeps_sound}
 use Rattle.branchx.specs.declared.branch.Branch.{Branch}
 use Rattle.branchx.specs.declared.branch.Branch.TheVariants.{Edge, Clique}
@@ -23,16 +22,16 @@ use Rattle.leasebook.specs.declared.lease.LeaseFate.{LeaseFate}
 use Rattle.leasebook.specs.declared.lease.LeaseFate.TheVariants.{Lost}
 use Rattle.leasebook.specs.declared.lease.Lease.{Lease}
 use Rattle.leasebook.specs.declared.lease.Entry.TheVariants.{End, Take}
-use Rattle.leasebook.specs.Leases.{is_held, is_held_fate, is_lost, is_lost_fate, lease_at, no_lease, of_node, Apart}
-use Rattle.leasebook.specs.Log.{NodeKind, open_kind, closed_kind, split_kind, Replayed, Table, after, leases_after, kinds_after, entered}
+use Rattle.leasebook.specs.Leases.{is_held, is_held_fate, lease_at, no_lease, of_node, Apart}
+use Rattle.leasebook.specs.Log.{NodeKind, open_kind, Replayed, Table, after, leases_after, kinds_after, entered}
 use Rattle.leasebook.proofs.LogLemmas.{entries_act}
 use Rattle.leasebook.proofs.HolderLemmas.{found, none_found, apart_ended, none_after_end, nodes_differ}
 use Rattle.bossx.specs.declared.brought.Brought.{Brought}
 use Rattle.bossx.specs.declared.brought.Brought.TheVariants.{Plain, Hinted, Weighed}
 use Rattle.bossx.specs.Books.{Book, level, path_in, content_of, key_from, key_at, is_split, fate_by, tree_after, keys_after, table_after, end_by, taken}
 use Rattle.bossx.specs.Judging.{MayBeTaken, Suffices, BranchFits, ReportFits, BroughtFits}
-use Rattle.bossx.specs.Kept.{kind_of, kinds, IsTreeOf, IsBook, IsCharged, Replays}
-use Rattle.bossx.proofs.LendingLemmas.{NameIn, names_ended, fewer_held, more_lost, some_held, ended_length}
+use Rattle.bossx.specs.Kept.{kind_of, kinds, IsTreeOf, IsBook, Replays}
+use Rattle.bossx.proofs.LendingLemmas.{NameIn, names_ended, fewer_held, more_lost, ended_length}
 
 -- ---- what fits a node may settle it
 

@@ -1,8 +1,8 @@
 -- The boss's book: the search tree, who works on which node, and the best tour so far.
-use Rattle.std.specs.Prelude.{◌≡◌, ◌≢◌, ℕ, ◌+◌, ◌-◌, ◌<◌, Bool, true, false, cond, ◌==◌, Option, Some, None, List, [], ◌∷◌, ◌++◌, length, ℤ, pos, slice_index_or}
+use Rattle.std.specs.Prelude.{◌≡◌, ℕ, ◌+◌, ◌-◌, Bool, true, false, cond, ◌==◌, Option, Some, None, List, [], ◌∷◌, ◌++◌, ℤ, pos, slice_index_or}
 use Rattle.tspdef.specs.Paths.{Condition}
 use Rattle.tspdef.specs.Instances.{Instance, length_in}
-use Rattle.treebook.specs.Tables.{Node, open_node, closed_at, split_at, state_at, path_at, IsOpen}
+use Rattle.treebook.specs.Tables.{Node, closed_at, split_at, path_at, IsOpen}
 use Rattle.treebook.specs.Tree.{branch_of}
 use Rattle.treebook.specs.Tree as trees
 use Rattle.pricer.specs.declared.closing.Report.{Report}

@@ -1,6 +1,6 @@
 -- What is answered to a report on a node. The answers are tested in this order: the node is not open; the budget is spent; the
 -- report does not fit; its bound is too small; and else it is taken.
-use Rattle.std.specs.Prelude.{◌≡◌, ◌≢◌, ℕ, ◌<◌, false, List, ℤ, ◌<ℤ◌, ◌≤ℤ◌}
+use Rattle.std.specs.Prelude.{◌≡◌, ℕ, ◌<◌, false, List, ℤ, ◌<ℤ◌, ◌≤ℤ◌}
 use Rattle.tspdef.specs.Sets.{IsProper}
 use Rattle.tspdef.specs.Paths.{Condition, IsPair, is_decided, IsNew}
 use Rattle.tspdef.specs.Closings.{Fits, IsMisfit}

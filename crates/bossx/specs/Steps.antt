@@ -1,23 +1,19 @@
 -- What the boss answers to an event, and what it does to the book: a table with one row a line.
-use Rattle.std.specs.Prelude.{◌≡◌, ◌≢◌, ℕ, ◌+◌, ◌<◌, ◌≤◌, ◌⊎◌, true, false, Option, Some, None, List, [], ◌∷◌, length, ℤ, count_by, slice_get, take}
+use Rattle.std.specs.Prelude.{◌≡◌, ◌≢◌, ℕ, ◌+◌, ◌<◌, ◌≤◌, ◌⊎◌, true, false, Some, None, List, [], ◌∷◌, length, ℤ, count_by, slice_get, take}
 use Rattle.tspdef.specs.Tours.{steps, has_step}
 use Rattle.tspdef.specs.Fixed.{AreSteps}
 use Rattle.tspdef.specs.Trees.{open_leaves}
 use Rattle.tspdef.specs.Instances.{IsTourOf, length_in}
 use Rattle.treebook.specs.Tables.{IsOpen, IsLeastOpen, tree_of}
-use Rattle.leasebook.specs.Leases.{is_held, is_lost, lease_at, of_grunt, of_node}
+use Rattle.leasebook.specs.Leases.{is_held, is_lost, lease_at, of_grunt}
 use Rattle.leasebook.specs.Log.{held}
 use Rattle.tournament.specs.Places.{ComesFirst}
 use Rattle.pricer.specs.declared.closing.Report.{Report}
 use Rattle.bossx.specs.declared.brought.Brought.{Brought}
 use Rattle.bossx.specs.declared.brought.Brought.TheVariants.{Plain}
-use Rattle.bossx.specs.declared.replies.Asked.{Asked}
 use Rattle.bossx.specs.declared.replies.Asked.TheVariants as told
-use Rattle.bossx.specs.declared.replies.Reported.{Reported}
 use Rattle.bossx.specs.declared.replies.Reported.TheVariants as judged
-use Rattle.bossx.specs.declared.replies.Expiry.{Expiry}
 use Rattle.bossx.specs.declared.replies.Expiry.TheVariants as ends
-use Rattle.bossx.specs.declared.replies.Offered.{Offered}
 use Rattle.bossx.specs.declared.replies.Offered.TheVariants as tours
 use Rattle.bossx.specs.declared.replies.Front.{Front}
 use Rattle.bossx.specs.declared.replies.Front.TheVariants as fronts

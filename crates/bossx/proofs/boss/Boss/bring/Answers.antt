@@ -1,5 +1,5 @@
 use Rattle.std.proofs.Common.{rules, ℕ, ◌≡◌, ◌<◌, length, sym, subst}
-use Rattle.bossx.specs.Books.{Book, node_of}
+use Rattle.bossx.specs.Books.{node_of}
 use Rattle.bossx.specs.Judging.{IsJudged}
 use Rattle.bossx.specs.Steps.{Step, report_unknown}
 use Rattle.bossx.proofs.Rows.{reported_row}

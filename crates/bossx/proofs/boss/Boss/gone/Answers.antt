@@ -1,5 +1,5 @@
 use Rattle.std.proofs.Common.{ℕ, Option, refl, sym, subst}
-use Rattle.bossx.specs.Books.{Book, released}
+use Rattle.bossx.specs.Books.{released}
 use Rattle.bossx.specs.Steps.{Step}
 use Rattle.bossx.proofs.Rows.{gone_row}
 use Rattle.bossx.proofs.boss.Boss.gone.Goals as goal

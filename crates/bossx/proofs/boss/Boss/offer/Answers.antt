@@ -1,8 +1,6 @@
-use Rattle.std.proofs.Common.{arith, ℕ, List, ◌≡◌, ◌<◌, ◌≤◌, ◌∙◌, length, sym, ap, subst}
-use Rattle.tspdef.specs.Tours.{IsTour, steps}
-use Rattle.tspdef.specs.Fixed.{AreSteps}
-use Rattle.tspdef.specs.Instances.{Instance, IsTourOf, length_in}
-use Rattle.cyc.specs.Tour.{IsWhole}
+use Rattle.std.proofs.Common.{arith, ℕ, List, ◌≡◌, ◌<◌, ◌≤◌, length, sym, subst}
+use Rattle.tspdef.specs.Tours.{steps}
+use Rattle.tspdef.specs.Instances.{length_in}
 use Rattle.bossx.specs.declared.replies.Offered.TheVariants.{OtherSize, OffFixed, NotShorter, Better}
 use Rattle.bossx.specs.Books.{Book, best_length, with_best}
 use Rattle.bossx.specs.BossInside.{book_of}

@@ -1,13 +1,12 @@
-use Rattle.std.proofs.Common.{rules, arith, ◌≡◌, ℕ, refl, sym, ◌∙◌, ap, subst, w64, to_z, of_z}
+use Rattle.std.proofs.Common.{rules, arith, ◌≡◌, refl, sym, ◌∙◌, ap, subst, w64, to_z, of_z}
 use Rattle.std.proofs.lemmas.Int.{ints}
 use Rattle.std.specs.Prelude.{ℤ}
 use Rattle.pricer.specs.declared.closing.Report.{Report}
 use Rattle.bossx.specs.Books.{Book, key_at, key_from, keys_after, tree_after}
 use Rattle.bossx.specs.Judging.{MayBeTaken}
 use Rattle.bossx.specs.Answers.{key_after}
-use Rattle.tournament.specs.Places.{key_of}
 use Rattle.bossx.proofs.Room.{close_room}
-use Rattle.bossx.proofs.Kept.{IsSettled, settle_kept, table_steps}
+use Rattle.bossx.proofs.Kept.{settle_kept, table_steps}
 use Rattle.bossx.proofs.boss.Boss.settle.Goals as goal
 
 pub close_out-requires-clause-held : goal.close_out-requires-clause-held
