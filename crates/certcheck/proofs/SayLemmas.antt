@@ -1,6 +1,6 @@
 -- What the bytes of a restart body say, as they are read.
-use Rattle.std.proofs.Common.{◌≡◌, ◌≢◌, ℕ, suc, ◌+◌, ◌<◌, ◌≤◌, true, false, cond, List, [], ◌∷◌, ◌++◌, length, refl, sym, ap, subst, ◌∙◌, append_assoc, length-append, drop, arith, Result, Ok, Err, OnOk}
-use Rattle.std.specs.Prelude.{nat_le, nat_lt, ◌==◌, slice_index}
+use Rattle.std.proofs.Common.{◌≡◌, ◌≢◌, ℕ, suc, ◌+◌, false, cond, List, [], ◌∷◌, ◌++◌, length, refl, sym, ap, subst, ◌∙◌, append_assoc, drop, arith, Result, Ok, Err, OnOk}
+use Rattle.std.specs.Prelude.{◌==◌}
 use Rattle.std.proofs.lemmas.Bool.Decides.{nat_tests}
 use Rattle.certdef.specs.Items.{item_of}
 use Rattle.certdef.specs.Tests.{Tests}

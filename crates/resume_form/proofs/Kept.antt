@@ -1,11 +1,11 @@
 -- What stays where an open node of a table is closed or split, and what its children are.
-use Rattle.std.proofs.Common.{◌≡◌, ℕ, ◌+◌, ◌-◌, ◌<◌, ◌≤◌, true, cond, List, [], ◌∷◌, ◌++◌, length, get_or, refl, sym, ap, subst, ◌∙◌, arith, ⊎_elim, eq-eqb, length-set, length-append}
+use Rattle.std.proofs.Common.{◌≡◌, ℕ, ◌+◌, ◌-◌, ◌<◌, ◌≤◌, true, cond, List, [], ◌∷◌, ◌++◌, length, get_or, refl, sym, ap, subst, ◌∙◌, arith, ⊎_elim, eq-eqb, length-set}
 use Rattle.std.specs.Prelude.{◌==◌}
 use Rattle.std.proofs.lemmas.Bool.{cases_eq, false≢true, ne_eqb}
 use Rattle.std.proofs.lemmas.List.{get_or_append_left, get_or-append_right}
 use Rattle.tspdef.specs.Paths.{Condition}
 use Rattle.tspdef.specs.Trees.{Side, first, second}
-use Rattle.treebook.specs.Tables.{Branch, State, open_node, split_node, Node, open_under, node_at, parent_at, state_at, condition_on, side_under, condition_under, side_at, own_condition, path_at, sides_of, is_child, IsTable, IsOpen, with_state, split_at}
+use Rattle.treebook.specs.Tables.{Branch, State, split_node, Node, open_under, node_at, parent_at, state_at, condition_on, side_under, condition_under, side_at, path_at, sides_of, is_child, IsTable, IsOpen, with_state, split_at}
 use Rattle.treebook.proofs.WayLemmas.{from_parents, path_step, sides_step}
 use Rattle.treebook.proofs.TreeLemmas.{are_behind}
 use Rattle.treebook.proofs.Growing.{Grows, paths_kept, state_set, split_length, split_grows}

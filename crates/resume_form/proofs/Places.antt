@@ -1,5 +1,5 @@
 -- Trees in place of open leaves.
-use Rattle.std.proofs.Common.{◌≡◌, List, [], ◌∷◌, ◌++◌, refl, ap, ◌∙◌, Some}
+use Rattle.std.proofs.Common.{◌≡◌, List, [], ◌∷◌, ◌++◌, refl, ap, Some}
 use Rattle.tspdef.specs.Paths.{Condition, absent, present, two, four}
 use Rattle.tspdef.specs.Trees.{Tree, open_leaf, closed_leaf, edge_split, clique_split, Side, first, second, open_path, with_leaf}
 use Rattle.treebook.specs.Tables.{Branch, on_edge, on_clique, split_tree}

@@ -1,17 +1,17 @@
 -- What is read out of a body, and the laws of it.
-use Rattle.std.proofs.Common.{◌≡◌, ℕ, ◌+◌, ◌-◌, ◌*◌, ◌^◌, ◌<◌, ◌≤◌, Bool, true, false, ◌&&◌, List, [], ◌∷◌, ◌++◌, length, map, refl, sym, ap, subst, ◌∙◌, arith, inl, inr}
-use Rattle.std.specs.Prelude.{not, nat_le, nat_lt, ◌⊎◌, Result, Ok, Err, Option, Some, None}
+use Rattle.std.proofs.Common.{◌≡◌, ℕ, ◌+◌, ◌-◌, ◌*◌, ◌^◌, ◌<◌, ◌≤◌, Bool, true, false, ◌&&◌, List, ◌∷◌, length, refl, sym, ap, subst, ◌∙◌, arith, inl, inr}
+use Rattle.std.specs.Prelude.{not, nat_le, nat_lt, Option, Some, None}
 use Rattle.std.specs.List.{AllByRecursion}
 use Rattle.std.proofs.lemmas.Bool.{and_parts, ltb-true}
 use Rattle.std.proofs.lemmas.Bool.Decides.{nat_tests}
-use Rattle.tspdef.specs.Instances.{Instance, IsTourOf, length_in}
+use Rattle.tspdef.specs.Instances.{Instance}
 use Rattle.tspdef.specs.Trees.{Tree, IsSoundFor}
 use Rattle.treebook.specs.Tables.{tree_of}
 use Rattle.treebook.specs.Tree.{Table}
 use Rattle.certdef.specs.Items.{size_line, line, longest, fits}
 use Rattle.certdef.specs.Proofs.{Listed, Written, Proof, items}
 use Rattle.certdef.specs.Accepted.{from_zero, tree_in, most_bytes}
-use Rattle.certdef.specs.Verdicts.{Verdict, yes, no}
+use Rattle.certdef.specs.Verdicts.{yes, no}
 use Rattle.verdict.specs.Bodies.{merged, reopened_for, resumed, body_verdict, IsBodyOf, IsBodyText, YesIsBodyText, ResumedIsSound}
 use Rattle.verdict.specs.Parts.{Part, the_tour, preorder, parts_of, body_says, BodiesSayTheirParts}
 use Rattle.verdict.specs.Spellings.{BytesHaveOneValue}
@@ -22,7 +22,7 @@ use Rattle.certcheck.specs.declared.part.Part as P
 use Rattle.certcheck.specs.declared.answer.Trouble.{Trouble}
 use Rattle.certcheck.specs.declared.answer.Trouble.TheVariants as troubles
 use Rattle.resume_form.specs.Growing.{IsSaid, IsGrown, BeginsWithTour}
-use Rattle.resume_form.specs.Resumed.{nodes_in, most_nodes, told_as, IsResumed, HasTooMany, IsRefusedByTests, IsRefused, OneReading, OneTree, BodiesAreRead}
+use Rattle.resume_form.specs.Resumed.{nodes_in, most_nodes, told_as, IsResumed, IsRefused, OneReading, OneTree, BodiesAreRead}
 use Rattle.resume_form.specs.Told.{IsToldOf}
 use Rattle.resume_form.specs.declared.error.ReadError.{ReadError}
 use Rattle.resume_form.specs.declared.error.ReadError.TheVariants as errors

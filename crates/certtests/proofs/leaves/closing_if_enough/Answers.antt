@@ -1,7 +1,6 @@
 use Rattle.std.proofs.Common.{◌≡◌, ℕ, map, sym, ap, subst, ◌∙◌}
-use Rattle.std.specs.Prelude.{Option, IfSome}
+use Rattle.std.specs.Prelude.{IfSome}
 use Rattle.std.specs.Option.{is_some}
-use Rattle.tspdef.specs.Closings.{Closing}
 use Rattle.certdef.specs.Proofs.{Duals}
 use Rattle.certdef.specs.Accepted as defs
 use Rattle.certtests.specs.Listed.{listed}

@@ -1,9 +1,9 @@
-use Rattle.std.proofs.Common.{◌≡◌, ℕ, List, [], ◌∷◌, length, map, ap, refl, sym, subst, ◌∙◌, arith}
+use Rattle.std.proofs.Common.{ℕ, ◌∷◌, length, ap, sym, subst, ◌∙◌}
 use Rattle.tspdef.specs.Bounds.{needed}
 use Rattle.treebook.specs.Tables.{fresh}
 use Rattle.verdict.specs.Bodies.{reopened_for}
 use Rattle.verdict.specs.Parts as parts
-use Rattle.certcheck.specs.Parts.{part_of, parts_of}
+use Rattle.certcheck.specs.Parts.{parts_of}
 use Rattle.resume_form.specs.Growing.{IsGrowing}
 use Rattle.resume_form.proofs.Taking.{starts, ends}
 use Rattle.resume_form.proofs.growing.grow.Goals as goal

@@ -1,4 +1,4 @@
-use Rattle.std.proofs.Common.{ℕ, length}
+use Rattle.std.proofs.Common.{length}
 use Rattle.tspdef.specs.Bounds.{needed}
 use Rattle.tspdef.specs.Trees as trees
 use Rattle.verdict.specs.Bodies.{reopened_for}

@@ -1,8 +1,8 @@
-use Rattle.std.proofs.Common.{◌≡◌, ℕ, List, [], ◌∷◌, ap, refl, ◌∙◌}
+use Rattle.std.proofs.Common.{ap}
 use Rattle.tspdef.specs.Bounds.{needed}
 use Rattle.treebook.specs.Tables.{on_edge, on_clique}
 use Rattle.certcheck.specs.Parts.{part_of}
-use Rattle.resume_form.proofs.Taking.{may_split, split_takes, may_close, closed_takes, open_takes, tour_takes, some_wait, ok_then}
+use Rattle.resume_form.proofs.Taking.{may_split, split_takes, may_close, closed_takes, open_takes, tour_takes, ok_then}
 use Rattle.resume_form.proofs.growing.take.Goals as goal
 
 pub split-requires-clause-fits : goal.split-requires-clause-fits

@@ -1,9 +1,7 @@
-use Rattle.std.proofs.Common.{rules, ◌≡◌, ℕ, ◌^◌, ◌<◌, length, sym, ◌∙◌}
-use Rattle.tspdef.specs.Trees.{Tree}
+use Rattle.std.proofs.Common.{rules, ◌≡◌, ◌^◌, ◌<◌, length, sym, ◌∙◌}
 use Rattle.certdef.specs.Accepted.{tree_in}
 use Rattle.verdict.specs.Bodies.{merged}
-use Rattle.certcheck.specs.Parts.{parts_of}
-use Rattle.resume_form.proofs.Taken.{IsWhole, IsTaken, whole, too_many, whole_begins, taken, taken_said, was_read, few_read}
+use Rattle.resume_form.proofs.Taken.{IsWhole, whole, too_many, whole_begins, taken, taken_said, was_read, few_read}
 use Rattle.resume_form.proofs.reading.read.Goals as goal
 
 pub returns-then-not-has_room-clause-refused : goal.returns-then-not-has_room-clause-refused
