@@ -11,3 +11,4 @@ pub mod MemSlots
 pub mod Slots
 pub mod SlotFile
 pub mod Records
+pub mod Posts

@@ -308,3 +308,34 @@ fn slots_over_real_files(rt: HostRuntime) -> Result<(), Fail> {
     fs::remove_file(&rt, "slots_test.1")?;
     Ok(())
 }
+
+#[test]
+fn leases_have_the_fates_of_plain_rules(rt: HostRuntime) -> Result<(), Fail> {
+    let plain = PlainPosts {
+        lose: 2,
+        twice: true,
+        late: false,
+    };
+    assert_eq!(rt; plain.fate(0), Fate::Never);
+    assert_eq!(rt; plain.fate(1), Fate::Never);
+    assert_eq!(rt; plain.fate(2), Fate::Twice);
+    let late = PlainPosts {
+        lose: 0,
+        twice: true,
+        late: true,
+    };
+    assert_eq!(rt; late.fate(0), Fate::Late);
+    let both = WorsePosts::new(&plain, &late);
+    assert_eq!(rt; both.fate(1), Fate::Never);
+    assert_eq!(rt; both.fate(2), Fate::Late);
+    let open = PlainPosts {
+        lose: 0,
+        twice: false,
+        late: false,
+    };
+    assert_eq!(rt; WorsePosts::new(&open, &plain).fate(7), Fate::Twice);
+    assert_eq!(rt; WorsePosts::new(&open, &open).fate(7), Fate::Once);
+    OpenGate.pass(1, 0, Point::BeforeAsk);
+    OpenGate.stands(40, 1, 0, 0);
+    Ok(())
+}
