@@ -15,8 +15,9 @@ pub trait Gate {
     fn pass(&self, grunt: u32, lease: u32, point: Point);
 
     /// How the search stands: the length of the best tour, the open nodes and the settled ones, and the least key of an open node
-    /// that nobody works on. A key is a worker's guess of what a bound on the node is, in units; it is not trusted.
-    fn stands(&self, _best: u64, _open: u32, _settled: u32, _least_key: i64) {}
+    /// that nobody works on, if there is one. A key is a worker's guess of a bound on the node, as a whole length; it is not
+    /// trusted.
+    fn stands(&self, _best: u64, _open: u32, _settled: u32, _least_key: Option<i64>) {}
 }
 
 /// A gate that holds nobody up and says nothing.

@@ -336,6 +336,6 @@ fn leases_have_the_fates_of_plain_rules(rt: HostRuntime) -> Result<(), Fail> {
     assert_eq!(rt; WorsePosts::new(&open, &plain).fate(7), Fate::Twice);
     assert_eq!(rt; WorsePosts::new(&open, &open).fate(7), Fate::Once);
     OpenGate.pass(1, 0, Point::BeforeAsk);
-    OpenGate.stands(40, 1, 0, 0);
+    OpenGate.stands(40, 1, 0, Some(0));
     Ok(())
 }
