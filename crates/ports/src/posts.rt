@@ -74,8 +74,8 @@ pub struct WorsePosts<'a, P: Posts, Q: Posts> {
 
 impl<'a, P: Posts, Q: Posts> WorsePosts<'a, P, Q> {
     pub fn new(first: &'a P, second: &'a Q) -> WorsePosts<'a, P, Q>
-        ensures first { result.first ≡ first }
-        ensures second { result.second ≡ second }
+        ensures first { result.first.now ≡ first.now }
+        ensures second { result.second.now ≡ second.now }
     {
         WorsePosts { first, second }
     }
