@@ -1,5 +1,5 @@
 -- How many rows a node begins with.
-use Rattle.std.proofs.Common.{◌≡◌, ℕ, zero, suc, ◌≤◌, List, [], ◌∷◌, length, Bool, true, Some, None, refl, sym, ap, subst, arith}
+use Rattle.std.proofs.Common.{◌≡◌, ℕ, zero, suc, ◌+◌, ◌<◌, ◌≤◌, List, [], ◌∷◌, length, Bool, true, Some, None, refl, sym, ap, subst, ◌∙◌, arith}
 use Rattle.std.specs.Prelude.{Option}
 use Rattle.std.proofs.lemmas.List.{length-append}
 use Rattle.tspdef.specs.Instances.{Instance}
@@ -8,7 +8,10 @@ use Rattle.simplex.specs.Lp.{Program, is_new_to, is_counted}
 use Rattle.simplex.specs.declared.answer.LpAnswer.{LpAnswer}
 use Rattle.nodelp.specs.Shapes.{degree_shapes, degree_shape, clique_shapes}
 use Rattle.nodelp.specs.Node.{Node, IsNodeLp}
+use Rattle.nodelp.specs.Adding.{AreFurther}
 use Rattle.worker.specs.Works.{cliques}
+use Rattle.grunt.specs.Rounds.{IsBegun, IsReady, HasGrown}
+use Rattle.lpcheck.specs.declared.row.Row.{Row}
 
 -- conditions on sets are counted alike
 pub cliques_are : (path : List Condition) → length (clique_shapes path) ≡ cliques path
@@ -33,6 +36,46 @@ few_rows i path node few some none is =
     let z : length node.cuts ≡ 0 = ap length none in
     omega arith
 
+-- a relaxation without cuts and without solves has begun
+pub begun_near : (i : Instance) (path : List Condition) (node : Node) → i.n ≤ 2000 → cliques path ≤ 2097152 → IsNodeLp i path node → node.cuts ≡ [] → node.program.last ≡ None → node.program.rounds ≡ 0 → IsBegun i path node
+begun_near i path node few some is none unsolved rounds =
+    let rows = few_rows i path node few some none is in
+    record { is_lp = is; unsolved = unsolved; rounds = rounds; rows = omega (arith, rows) }
+
+-- so has one that was given cuts before a solve
+pub begun_further : (i : Instance) (path : List Condition) (many : ℕ) (before after : Node) → many ≤ 65536 → IsNodeLp i path before → before.program.last ≡ None → before.program.rounds ≡ 0
+    → length before.program.rows ≤ 2099152 → AreFurther many before after → IsBegun i path after
+begun_further i path many before after few is unsolved rounds rows further =
+    let most = further.most in
+    record {
+      is_lp = further.kept i path is;
+      unsolved = ap (λ (p : Program). p.last) further.others ∙ unsolved;
+      rounds = ap (λ (p : Program). p.rounds) further.others ∙ rounds;
+      rows = omega (arith, most, few, rows);
+    }
+
 -- the first solve counts
 pub first_counts : (p : Program) → p.last ≡ None → is_counted p ≡ true
 first_counts p e = subst (λ (o : Option LpAnswer). (elim o as (λ _. Bool) [ None ↦ true | Some a ↦ is_new_to p a ]) ≡ true) (sym e) refl
+
+-- what has begun is ready
+pub begun_ready : (i : Instance) (path : List Condition) (node : Node) → IsBegun i path node → IsReady i path node
+begun_ready i path node begun =
+    let rounds = begun.rounds in
+    let rows = begun.rows in
+    record { is_lp = begun.is_lp; counted = first_counts node.program begun.unsolved; rounds = omega (arith, rounds); rows = omega (arith, rounds, rows) }
+
+-- what has grown after a solve is ready again, where not all rounds but the last are used up
+pub grown_ready : (i : Instance) (path : List Condition) (before solved after : Node) → IsReady i path before → before.program.rounds < 199 → solved.program.rounds ≡ before.program.rounds + 1 → solved.program.rows ≡ before.program.rows
+    → HasGrown i path solved after → IsReady i path after
+grown_ready i path before solved after ready few rounds rows grown =
+    let same = grown.rounds in
+    let most = grown.rows in
+    let room = ready.rows in
+    let equal = ap (λ (l : List Row). length l) rows in
+    record {
+      is_lp = grown.is_lp;
+      counted = grown.counted;
+      rounds = omega (arith, same, rounds, few);
+      rows = omega (arith, same, rounds, most, equal, room);
+    }

@@ -1,5 +1,5 @@
 -- What is known of a node's relaxation between its rounds.
-use Rattle.std.specs.Prelude.{◌≡◌, ℕ, ◌+◌, ◌*◌, ◌≤◌, ◌⊎◌, true, List, length, ◌<ℤ◌, ◌≤ℤ◌}
+use Rattle.std.specs.Prelude.{◌≡◌, ℕ, ◌+◌, ◌*◌, ◌≤◌, ◌⊎◌, true, List, length, None, ◌<ℤ◌, ◌≤ℤ◌}
 use Rattle.tspdef.specs.Instances.{Instance}
 use Rattle.tspdef.specs.Paths.{Condition}
 use Rattle.tspdef.specs.Closings.{Fits}
@@ -11,12 +11,19 @@ use Rattle.nodelp.specs.Duals.{closing_of, newest_duals}
 use Rattle.grunt.specs.declared.rounds.Look.{Look}
 use Rattle.grunt.specs.Whys.{LacksNothing}
 
--- So many rounds are done, the next solve counts, and there is room for the rows of those that are left.
-pub record IsReady (i : Instance) (path : List Condition) (done : ℕ) (node : Node) : Type 0 where
+-- a node's relaxation before any solve, with few rows
+pub record IsBegun (i : Instance) (path : List Condition) (node : Node) : Type 0 where
+  pub is_lp : IsNodeLp i path node
+  pub unsolved : node.program.last ≡ None
+  pub rounds : node.program.rounds ≡ 0
+  pub rows : length node.program.rows ≤ 2164688
+
+-- The next solve counts, not all rounds are used up, and there is room for the rows of those that are left.
+pub record IsReady (i : Instance) (path : List Condition) (node : Node) : Type 0 where
   pub is_lp : IsNodeLp i path node
   pub counted : is_counted node.program ≡ true
-  pub rounds : node.program.rounds ≡ done
-  pub rows : length node.program.rows ≤ 2099152 + 4096 * done
+  pub rounds : node.program.rounds ≤ 199
+  pub rows : length node.program.rows ≤ 2164688 + 4096 * node.program.rounds
 
 -- the node is solved as it stands, and the look shows the closing of its duals and the bound of that
 pub record IsLook (i : Instance) (path : List Condition) (node : Node) (look : Look) : Type 0 where

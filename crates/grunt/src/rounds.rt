@@ -1,5 +1,5 @@
 //! Rounds of solving a node's relaxation and adding what its answer lacks.
-ghost use Rattle.std.specs.Prelude.{◌≡◌, ◌+◌, ◌^◌, ◌≤◌, true, false, [], length, None, All, IfOk};
+ghost use Rattle.std.specs.Prelude.{◌≡◌, ◌+◌, ◌^◌, ◌≤◌, true, false, length, All, IfOk};
 ghost use Rattle.tspdef.specs.Cuts.{IsCut};
 ghost use Rattle.nodelp.specs.Node.{IsNodeLp, IsClean, HasSolved, IsMissed};
 ghost use Rattle.simplex.specs.Lp.{is_counted};
@@ -7,8 +7,9 @@ ghost use Rattle.worker.specs.Works.{cliques};
 ghost use Rattle.sepblos.specs.Violated.{IsWorth};
 ghost use Rattle.grunt.specs.Missed.{MissesNoCut};
 ghost use Rattle.grunt.specs.Whys.{MissesNone, LacksNothing};
-ghost use Rattle.grunt.specs.Rounds.{IsReady, IsLook, HasGrown, HasEnded};
+ghost use Rattle.grunt.specs.Rounds.{IsBegun, IsLook, HasGrown, HasEnded};
 
+use crate::ages::Ages;
 use crate::boxes::{fetched_cuts, share_all};
 use crate::missed::missed_cuts;
 use crate::proposals::handles_of;
@@ -26,6 +27,9 @@ use tspinst::Instance;
 /// How many rounds a node has.
 pub(crate) const ROUNDS: u32 = 200;
 
+/// How often cuts are taken off at most.
+const PURGES: u32 = 20;
+
 /// What a solve shows: the closing of its duals, and its bound.
 #[derive(Drop)]
 pub(crate) struct Look {
@@ -37,7 +41,9 @@ pub(crate) struct Look {
 /// missing, or the rounds are used up; what the last solve shows.
 ///
 /// Each round but the last adds a row that the values missed or a column of negative reduced cost, so that the next solve
-/// counts as a round of the program too.
+/// counts as a round of the program too. Where many cuts are slack for long, a program without them takes the node's place, from
+/// the same basis on: its rounds begin anew, and what is said of rounds in the end is said of that program, from which nothing is taken off any more.
+#[tactic(auto, using(crate::proofs::RowLemmas::begun_ready, crate::proofs::RowLemmas::grown_ready))]
 pub(crate) fn rounds<B: CutBox>(
     alloc: Global,
     instance: &Instance,
@@ -49,24 +55,55 @@ pub(crate) fn rounds<B: CutBox>(
     requires cities { path.now.n ≡ instance.now.n }
     requires few { length path.now.conditions ≤ 2 ^ 22 }
     requires few_cliques { cliques path.now.conditions ≤ 2 ^ 21 }
-    requires node { IsNodeLp instance.now path.now.conditions node.old }
-    requires unsolved { node.old.program.last ≡ None }
-    requires no_cuts { node.old.cuts ≡ [] }
-    requires no_rounds { node.old.program.rounds ≡ 0 }
+    requires begun { IsBegun instance.now path.now.conditions node.old }
     ensures look { IfOk result (IsLook instance.now path.now.conditions node.new) }
     ensures ended { IfOk result (HasEnded instance.now path.now.conditions wanted node.new) }
 {
-    let _n = instance.n();
-    for _ in 0..ROUNDS - 1 {
+    let mut ages = Ages::new(alloc);
+    let mut purges = PURGES;
+    while node.lp().rounds() < ROUNDS - 1 {
         let newest = solved(alloc, instance, path, node)?;
         if newest.bound > needed(wanted) {
             return Ok(newest);
+        }
+        if purge(alloc, instance, path, node, &mut ages, purges)? {
+            purges -= 1;
+            continue;
         }
         if !grow(alloc, instance, shared, path, node)? {
             return Ok(newest);
         }
     }
     solved(alloc, instance, path, node)
+}
+
+/// Counts for how long each cut has been slack, and takes the old ones off where they are many and purges are left: whether it did.
+fn purge(
+    alloc: Global,
+    instance: &Instance,
+    path: &Path,
+    node: &mut NodeLp,
+    ages: &mut Ages,
+    left: u32,
+) -> Result<bool, AllocError>
+    requires cities { path.now.n ≡ instance.now.n }
+    requires few_cliques { cliques path.now.conditions ≤ 2 ^ 21 }
+    ensures begun { IfOk result (λ gone. gone ≡ true → IsBegun instance.now path.now.conditions node.new) }
+    ensures same { IfOk result (λ gone. gone ≡ false → node.new ≡ node.old) }
+    ensures left { IfOk result (λ gone. gone ≡ true → 1 ≤ left) }
+{
+    if left == 0 {
+        return Ok(false);
+    }
+    ages.count(node.lp())?;
+    match ages.kept(alloc, node)? {
+        Some(kept) => {
+            *node = node.without(alloc, instance, path, &kept)?;
+            *ages = Ages::new(alloc);
+            Ok(true)
+        }
+        None => Ok(false),
+    }
 }
 
 /// Solves a node's relaxation, and looks at what its duals are worth.

@@ -2,16 +2,21 @@
 ghost use Rattle.std.specs.Prelude.{◌≤◌, true, false};
 
 use crate::LpWorker;
+use crate::starts::Start;
+use crate::work::work_from;
+use branchx::{Cond, Path};
 use cutform::{Cut, Kind as CutKind};
 use cutpool::{CutBox, CutPool, NoCuts};
 use cyc::{CitySet, Frac};
 use distx::{Kind, Point};
 use neigh::nearest;
+use nodelp::NodeLp;
 use ports::{MemDesk, Room};
 use pricer::{Fit, Report, bound, fits};
 use std::alloc::{AllocError, Global};
 use std::process::Abort;
 use std::test::Fail;
+use std::thread;
 use tspinst::{Instance, from_points, read};
 use worker::{Why, Work, Worker, root_path};
 
@@ -205,7 +210,7 @@ fn found_length(instance: &Instance, work: &Work) -> u64 {
 fn the_square_is_closed_at_its_root(rt: HostRuntime) -> Result<(), Fail> {
     let alloc = rt.alloc();
     let instance = square(alloc)?;
-    let work = root_work(&rt, alloc, &LpWorker, &instance, 40)?;
+    let work = root_work(&rt, alloc, &LpWorker::new(alloc), &instance, 40)?;
     assert!(rt; closes_above(&rt, alloc, &instance, &work, 40_894_464)?);
     assert!(rt; work.tour.is_none());
     assert!(rt; work.why.is_none());
@@ -219,7 +224,7 @@ fn the_square_is_closed_at_its_root(rt: HostRuntime) -> Result<(), Fail> {
 fn groups_are_closed_by_a_subtour_cut(rt: HostRuntime) -> Result<(), Fail> {
     let alloc = rt.alloc();
     let instance = told(alloc, GROUPS)?;
-    let work = root_work(&rt, alloc, &LpWorker, &instance, 24)?;
+    let work = root_work(&rt, alloc, &LpWorker::new(alloc), &instance, 24)?;
     assert!(rt; closes_above(&rt, alloc, &instance, &work, 23 << 20)?);
     assert!(rt; 0 < work.effort.subtours);
     Ok(())
@@ -230,7 +235,7 @@ fn groups_are_closed_by_a_subtour_cut(rt: HostRuntime) -> Result<(), Fail> {
 fn the_prism_is_closed_by_a_comb(rt: HostRuntime) -> Result<(), Fail> {
     let alloc = rt.alloc();
     let instance = told(alloc, PRISM)?;
-    let work = root_work(&rt, alloc, &LpWorker, &instance, 4)?;
+    let work = root_work(&rt, alloc, &LpWorker::new(alloc), &instance, 4)?;
     assert!(rt; closes_above(&rt, alloc, &instance, &work, 3 << 20)?);
     assert!(rt; closes_by_a_comb(&work));
     assert!(rt; 0 < work.effort.blossoms);
@@ -242,7 +247,7 @@ fn the_prism_is_closed_by_a_comb(rt: HostRuntime) -> Result<(), Fail> {
 fn a_tour_is_found_on_the_way(rt: HostRuntime) -> Result<(), Fail> {
     let alloc = rt.alloc();
     let instance = told(alloc, PRISM)?;
-    let work = root_work(&rt, alloc, &LpWorker, &instance, 300)?;
+    let work = root_work(&rt, alloc, &LpWorker::new(alloc), &instance, 300)?;
     assert_eq!(rt; found_length(&instance, &work), 4);
     assert!(rt; closes_above(&rt, alloc, &instance, &work, 3 << 20)?);
     Ok(())
@@ -252,7 +257,7 @@ fn a_tour_is_found_on_the_way(rt: HostRuntime) -> Result<(), Fail> {
 fn petersens_graph_is_split_with_a_reason(rt: HostRuntime) -> Result<(), Fail> {
     let alloc = rt.alloc();
     let instance = told(alloc, PETERSEN)?;
-    let work = root_work(&rt, alloc, &LpWorker, &instance, 11)?;
+    let work = root_work(&rt, alloc, &LpWorker::new(alloc), &instance, 11)?;
     assert!(rt; is_checked(&work));
     assert_eq!(rt; work.hint, 10);
     assert_eq!(rt; work.effort.closed, 0);
@@ -271,7 +276,14 @@ fn cuts_are_shared(rt: HostRuntime) -> Result<(), Fail> {
     let mut recorder = Recorder {
         cuts: Vec::new(alloc),
     };
-    let work = boxed_work(&rt, alloc, &LpWorker, &mut recorder, &instance, 4)?;
+    let work = boxed_work(
+        &rt,
+        alloc,
+        &LpWorker::new(alloc),
+        &mut recorder,
+        &instance,
+        4,
+    )?;
     assert!(rt; closes_above(&rt, alloc, &instance, &work, 3 << 20)?);
     assert!(rt; has_comb(&recorder.cuts));
     Ok(())
@@ -282,10 +294,10 @@ fn cuts_of_a_pool_are_used(rt: HostRuntime) -> Result<(), Fail> {
     let alloc = rt.alloc();
     let instance = told(alloc, PRISM)?;
     let mut pool = CutPool::new(alloc, 6);
-    let first = boxed_work(&rt, alloc, &LpWorker, &mut pool, &instance, 4)?;
+    let first = boxed_work(&rt, alloc, &LpWorker::new(alloc), &mut pool, &instance, 4)?;
     let many = pool.len();
     assert!(rt; 0 < many);
-    let second = boxed_work(&rt, alloc, &LpWorker, &mut pool, &instance, 4)?;
+    let second = boxed_work(&rt, alloc, &LpWorker::new(alloc), &mut pool, &instance, 4)?;
     assert!(rt; closes_above(&rt, alloc, &instance, &second, 3 << 20)?);
     assert!(rt; second.effort.rounds <= first.effort.rounds);
     assert_eq!(rt; pool.len(), many);
@@ -301,8 +313,76 @@ fn a_box_that_lies_costs_time_alone(rt: HostRuntime) -> Result<(), Fail> {
         met: subtour(alloc, 6, &[0])?,
         same: prism_comb(alloc)?,
     };
-    let work = boxed_work(&rt, alloc, &LpWorker, &mut liar, &instance, 4)?;
+    let work = boxed_work(&rt, alloc, &LpWorker::new(alloc), &mut liar, &instance, 4)?;
     assert!(rt; closes_above(&rt, alloc, &instance, &work, 3 << 20)?);
     assert!(rt; closes_by_a_comb(&work));
+    Ok(())
+}
+
+/// What the root of an instance leaves to its children after one solve.
+fn left_at_root(rt: &impl Abort, alloc: Global, instance: &Instance) -> Result<Start, Fail> {
+    assert!(rt; instance.n() > 3);
+    let near = nearest(alloc, instance, 3)?;
+    let path = root_path(alloc, instance)?;
+    assert!(rt; path.conditions().is_empty());
+    let mut node = NodeLp::new(alloc, instance, &near, &path)?;
+    node.solve(alloc)?;
+    Ok(Start::of(alloc, &node, 1 << 40)?)
+}
+
+/// A start of the petersen graph names cities that a prism lacks, and rows and a basis of another program.
+#[test]
+fn a_start_of_another_node_costs_time_alone(rt: HostRuntime) -> Result<(), Fail> {
+    let alloc = rt.alloc();
+    let other = told(alloc, PETERSEN)?;
+    let start = left_at_root(&rt, alloc, &other)?;
+    let instance = told(alloc, PRISM)?;
+    assert!(rt; instance.n() > 3);
+    let near = nearest(alloc, &instance, 3)?;
+    let path = root_path(alloc, &instance)?;
+    let (work, _) = work_from(
+        alloc,
+        &instance,
+        &near,
+        &mut NoCuts,
+        &path,
+        4,
+        1,
+        0,
+        Some(&start),
+    )?;
+    assert!(rt; closes_above(&rt, alloc, &instance, &work, 3 << 20)?);
+    Ok(())
+}
+
+#[test]
+fn threads_share_a_worker(rt: HostRuntime) -> Result<(), Fail> {
+    let alloc = rt.alloc();
+    let worker = LpWorker::new(alloc);
+    let path = Path::new(alloc, 6);
+    let (first, second) = thread::join(
+        &rt,
+        || worker.start_for(&path).is_none(),
+        || worker.start_for(&path).is_none(),
+    );
+    assert!(rt; first && second);
+    Ok(())
+}
+
+/// What is kept for a node is given twice, to each of its children, and then let go.
+#[test]
+fn two_children_begin_with_what_is_kept(rt: HostRuntime) -> Result<(), Fail> {
+    let alloc = rt.alloc();
+    let instance = told(alloc, PETERSEN)?;
+    let worker = LpWorker::new(alloc);
+    let start = left_at_root(&rt, alloc, &instance)?;
+    let root = Path::new(alloc, 10);
+    worker.keep(alloc, &root, Some(start))?;
+    assert!(rt; worker.start_for(&root).is_none());
+    let mut child = Path::new(alloc, 10);
+    child.push(Cond::Absent(0, 1))?;
+    assert!(rt; worker.start_for(&child).is_some());
+    assert!(rt; worker.start_for(&child).is_some());
+    assert!(rt; worker.start_for(&child).is_none());
     Ok(())
 }

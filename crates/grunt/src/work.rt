@@ -5,18 +5,63 @@ ghost use Rattle.worker.specs.Works.{BeginsAt, IsWork, SplitsOnly, IsSplitting, 
 ghost use Rattle.grunt.specs.Whys.{IsExplained};
 
 use crate::efforts::effort_of;
-use crate::rounds::rounds;
+use crate::rounds::{Look, rounds};
 use crate::splits::settle;
+use crate::starts::{Start, Starts, begin};
 use branchx::Path;
 use cutpool::CutBox;
 use neigh::Neigh;
 use nodelp::NodeLp;
+use pricer::{Report, needed};
 use std::alloc::{AllocError, Global};
+use std::sync::{Arc, Mutex};
 use tspinst::Instance;
 use worker::{Work, Worker, first_look, level, paths_are_short};
 
+/// One length, in units.
+const SCALE: i128 = 0x10_0000;
+
 /// The worker that closes a node by the duals of a linear program, and splits it only where that is solved to the end.
-pub struct LpWorker;
+///
+/// Between nodes it keeps what the children of a split node begin with. No work waits for that: where another thread is at what is
+/// kept, or there is no room, nothing is kept and a node begins with its near pairs alone. What is kept costs or saves time; no
+/// answer rests on it.
+#[derive(Drop)]
+pub struct LpWorker {
+    starts: Mutex<Starts>,
+}
+
+impl LpWorker {
+    /// A worker that keeps nothing yet.
+    pub fn new(alloc: Global) -> LpWorker {
+        LpWorker {
+            starts: Mutex::new(Starts::new(alloc)),
+        }
+    }
+
+    /// What is kept for a path, if that can be seen at once.
+    pub(crate) fn start_for(&self, path: &Path) -> Option<Arc<Start, Global>> {
+        let mut starts = self.starts.try_lock()?;
+        starts.take(path)
+    }
+
+    /// Keeps a start, if there is one, for the children of a path's node, if that can be done at once.
+    pub(crate) fn keep(
+        &self,
+        alloc: Global,
+        path: &Path,
+        start: Option<Start>,
+    ) -> Result<(), AllocError> {
+        let Some(start) = start else {
+            return Ok(());
+        };
+        let start = Arc::new(alloc, start)?;
+        if let Some(mut starts) = self.starts.try_lock() {
+            starts.keep(path, start);
+        }
+        Ok(())
+    }
+}
 
 impl Worker for LpWorker {
     ghost splits = { IsNeededSplit };
@@ -46,11 +91,15 @@ impl Worker for LpWorker {
         ensures explained { IfOk result (IsExplained instance.now path.now.conditions best gap) }
         ensures why { IfOk result (λ w. IsSome w.why ↔ IsSplitting w.report) }
     {
-        work_by_lp(alloc, instance, near, shared, path, best, seed, gap)
+        let start = self.start_for(path);
+        let start = shown(&start);
+        let (done, left) = work_from(alloc, instance, near, shared, path, best, seed, gap, start)?;
+        self.keep(alloc, path, left)?;
+        Ok(done)
     }
 }
 
-/// Works on a node by its linear relaxation. The same seed gives the same work where the box gives the same cuts.
+/// Works on a node by its linear relaxation, of which nothing is kept. The same seed gives the same work where the box gives the same cuts.
 ///
 /// Zero duals close the node, or the ray where every pair is decided. Else there are up to 200 rounds: the program of the
 /// node's rows and of a core of near pairs is solved; its duals close the node if the bound that they give over all pairs
@@ -81,16 +130,74 @@ pub fn work_by_lp<B: CutBox>(
     ensures explained { IfOk result (IsExplained instance.now path.now.conditions best gap) }
     ensures why { IfOk result (λ w. IsSome w.why ↔ IsSplitting w.report) }
 {
+    let (work, _) = work_from(alloc, instance, near, shared, path, best, seed, gap, None)?;
+    Ok(work)
+}
+
+/// Works on a node, with what its parent left, if there is that; beside the work, what the node leaves to its children where it is split.
+pub(crate) fn work_from<B: CutBox>(
+    alloc: Global,
+    instance: &Instance,
+    near: &Neigh,
+    shared: &mut B,
+    path: &Path,
+    best: u64,
+    seed: u64,
+    gap: u64,
+    start: Option<&Start>,
+) -> Result<(Work, Option<Start>), AllocError>
+    requires cities { path.now.n ≡ instance.now.n }
+    requires begins { BeginsAt instance.now path.now.conditions }
+    requires lists { near.now.n ≡ instance.now.n }
+    requires few_cliques { cliques path.now.conditions ≤ 2 ^ 21 }
+    requires short { best < 2 ^ 42 }
+    ensures splits { IfOk result (λ r. SplitsOnly IsNeededSplit instance.now path.now.conditions best r.0.report gap) }
+    ensures work { IfOk result (λ r. IsWork instance.now path.now.conditions best gap r.0) }
+    ensures explained { IfOk result (λ r. IsExplained instance.now path.now.conditions best gap r.0) }
+    ensures why { IfOk result (λ r. IsSome r.0.why ↔ IsSplitting r.0.report) }
+{
     paths_are_short();
     let _n = instance.n();
     let _conditions = path.conditions();
     if let Some(work) = first_look(alloc, instance, path, best, gap)? {
-        return Ok(work);
+        return Ok((work, None));
     }
-    let mut node = NodeLp::new(alloc, instance, near, path)?;
+    let mut node = begin(alloc, instance, near, path, start)?;
     let newest = rounds(alloc, instance, shared, path, level(best, gap), &mut node)?;
     let programs = effort_of(&node);
+    let left = left_by(alloc, &node, &newest, level(best, gap))?;
     let mut work = settle(alloc, instance, near, path, best, seed, gap, node, newest)?;
     work.effort = work.effort.and(programs);
-    Ok(work)
+    let left = if_split(&work, left);
+    Ok((work, left))
+}
+
+/// What is shared.
+fn shown(start: &Option<Arc<Start, Global>>) -> Option<&Start> {
+    match start {
+        Some(start) => Some(&**start),
+        None => None,
+    }
+}
+
+/// What a node leaves, if work splits it.
+fn if_split(work: &Work, left: Option<Start>) -> Option<Start> {
+    match &work.report {
+        Report::Split(_) => left,
+        Report::Closed(_) => None,
+    }
+}
+
+/// What a node leaves to its children, where its bound does not close it for tours of a length.
+fn left_by(
+    alloc: Global,
+    node: &NodeLp,
+    newest: &Look,
+    length: u64,
+) -> Result<Option<Start>, AllocError> {
+    let gap = needed(length).saturating_sub(newest.bound);
+    if gap < 0 {
+        return Ok(None);
+    }
+    Ok(Some(Start::of(alloc, node, gap.saturating_add(SCALE))?))
 }

@@ -19,7 +19,7 @@ use Rattle.simplex.specs.declared.answer.LpAnswer.TheVariants.{Solved, Rough}
 use Rattle.nodelp.specs.Shapes.{Shape, shape_of, cut_shape, first_shapes}
 use Rattle.nodelp.specs.Cuts.{AreCutRows, is_listed, put}
 use Rattle.nodelp.specs.Node.{Node, IsNodeLp, IsCore, IsClean, HasSolved, IsMissed, entries_in}
-use Rattle.nodelp.specs.Adding.{IsNewRow, IsThere, IsAdded, AreAdded}
+use Rattle.nodelp.specs.Adding.{IsNewRow, IsThere, IsAdded, AreAdded, AreFurther}
 use Rattle.nodelp.specs.Duals.{newest_duals}
 use Rattle.nodelp.proofs.CutLemmas.{cut_rows_put, all_put, length-put, listed_row}
 use Rattle.nodelp.proofs.MissLemmas.{row_misses, fault_at, missed_still, missed_first}
@@ -156,6 +156,31 @@ one_added many before now after c are f missed cut cuts so_far is =
         → any_missed before.program.cols (map (λ c. value_of (entries_in before.program.last) c.u c.v) before.program.cols) (drop (length before.program.rows) after.program.rows) ≡ true
     at_once zero s l = first_missed before after c are f missed cuts (subst (λ (n : Node). IsAdded c n after) (s.start refl) is)
     at_once (suc k) s l = more_missed before now after c (map (λ c. value_of (entries_in before.program.last) c.u c.v) before.program.cols) (length before.program.rows) l is (s.missed (omega arith))
+
+-- ---- cuts that a program begins with
+
+pub none_further : (node : Node) → AreFurther 0 node node
+none_further node = record { kept = λ i path h. h; others = refl; most = omega arith }
+
+pub passed_further : (node : Node) → AreFurther 1 node node
+passed_further node = record { kept = λ i path h. h; others = refl; most = omega arith }
+
+pub added_further : (before after : Node) (c : Cut) → IsCut before.program.n c → IsAdded c before after → AreFurther 1 before after
+added_further before after c cut is = record {
+  kept = λ i path h. added_kept i path c before after is cut h;
+  others = added_others c before after is;
+  most = (added_lengths c before after is).1;
+}
+
+pub more_further : (many : ℕ) (before now after : Node) → AreFurther many before now → AreFurther 1 now after → AreFurther (many + 1) before after
+more_further many before now after so_far next =
+    let most = so_far.most in
+    let last = next.most in
+    record {
+      kept = λ i path h. next.kept i path (so_far.kept i path h);
+      others = next.others ∙ ap (λ (p : Program). record p { rows = after.program.rows }) so_far.others;
+      most = omega (arith, most, last);
+    }
 
 -- ---- the last of some
 

@@ -34,3 +34,9 @@ pub record AreAdded (many : ℕ) (before after : Node) : Type 0 where
   pub most : length after.program.rows ≤ length before.program.rows + many
   pub start : many ≡ 0 → after ≡ before
   pub missed : 0 < many → any_missed before.program.cols (map (λ c. value_of (entries_in before.program.last) c.u c.v) before.program.cols) (drop (length before.program.rows) after.program.rows) ≡ true
+
+-- from before to after rows of cuts were added, so many at most, whatever the newest values are
+pub record AreFurther (many : ℕ) (before after : Node) : Type 0 where
+  pub kept : (i : Instance) (path : List Condition) → IsNodeLp i path before → IsNodeLp i path after
+  pub others : after.program ≡ record before.program { rows = after.program.rows }
+  pub most : length after.program.rows ≤ length before.program.rows + many

@@ -148,6 +148,61 @@ pub fn add_core(
     add_all_near(instance, near, path, lp)
 }
 
+/// Adds the column of a pair of cities, in either order, unless it is decided or has one. What is no pair of cities is passed over.
+fn add_named(
+    instance: &Instance,
+    path: &Path,
+    pair: (u32, u32),
+    lp: &mut Lp,
+) -> Result<(), AllocError>
+    requires cities { lp.old.n ≡ instance.now.n }
+    requires core { IsCore instance.now path.now.conditions lp.old.cols }
+    ensures others { OnOk result (lp.new ≡ record lp.old { cols = lp.new.cols }) }
+    ensures core { OnOk result (IsCore instance.now path.now.conditions lp.new.cols) }
+{
+    let n = instance.n();
+    let (u, v) = pair;
+    if u < n && v < n {
+        return add_near(instance, path, u, v, lp);
+    }
+    Ok(())
+}
+
+/// Adds the undecided ones of some pairs.
+fn add_all_named(
+    instance: &Instance,
+    path: &Path,
+    pairs: &[(u32, u32)],
+    lp: &mut Lp,
+) -> Result<(), AllocError>
+    requires cities { lp.old.n ≡ instance.now.n }
+    requires core { IsCore instance.now path.now.conditions lp.old.cols }
+    ensures others { OnOk result (lp.new ≡ record lp.old { cols = lp.new.cols }) }
+    ensures core { OnOk result (IsCore instance.now path.now.conditions lp.new.cols) }
+{
+    for at in 0..pairs.len() {
+        add_named(instance, path, pairs[at], lp)?;
+    }
+    Ok(())
+}
+
+/// Adds a core that is named: the pairs that the path wants, and the undecided ones of some pairs.
+pub fn add_core_of(
+    instance: &Instance,
+    path: &Path,
+    pairs: &[(u32, u32)],
+    lp: &mut Lp,
+) -> Result<(), AllocError>
+    requires cities { lp.old.n ≡ instance.now.n }
+    requires path_cities { path.now.n ≡ instance.now.n }
+    requires empty { lp.old.cols ≡ [] }
+    ensures others { OnOk result (lp.new ≡ record lp.old { cols = lp.new.cols }) }
+    ensures core { OnOk result (IsCore instance.now path.now.conditions lp.new.cols) }
+{
+    add_wanted(instance, path.conditions(), lp)?;
+    add_all_named(instance, path, pairs, lp)
+}
+
 /// Adds the columns of pairs of negative reduced cost.
 pub fn add_pairs(
     instance: &Instance,

@@ -8,11 +8,12 @@ ghost use Rattle.simplex.specs.Lp.{IsSolve, is_counted};
 ghost use Rattle.nodelp.specs.Shapes.{cliques};
 ghost use Rattle.nodelp.specs.Cuts.{AreCutRows};
 ghost use Rattle.nodelp.specs.Node.{IsNodeLp, IsClean, HasSolved, IsMissed, IsPriced};
-ghost use Rattle.nodelp.specs.Adding.{IsAdded};
+ghost use Rattle.nodelp.specs.Adding.{IsAdded, AreFurther};
 ghost use Rattle.nodelp.specs.Duals.{closing_of, newest_duals};
 
+use crate::basis::{basis_without, cuts_kept, pairs_of};
 use crate::closing;
-use crate::columns::{add_core, add_pairs};
+use crate::columns::{add_core, add_core_of, add_pairs};
 use crate::cuts::{has_cut, place_of};
 use crate::pricing::negative_pairs;
 use crate::rows::{cut_row, first_rows};
@@ -20,7 +21,7 @@ use branchx::Path;
 use cutform::Cut;
 use neigh::Neigh;
 use pricer::Closing;
-use simplex::{Lp, LpAnswer};
+use simplex::{Basis, Lp};
 use std::alloc::{AllocError, Global};
 use std::marker::Model;
 use tspinst::Instance;
@@ -60,7 +61,6 @@ impl NodeLp {
     ) -> Result<NodeLp, AllocError>
         requires path_cities { path.now.n ≡ instance.now.n }
         requires near_cities { near.now.n ≡ instance.now.n }
-        requires short { length path.now.conditions ≤ 4194304 }
         requires few_cliques { cliques path.now.conditions ≤ 2097152 }
         ensures node { IfOk result (IsNodeLp instance.now path.now.conditions) }
         ensures no_cuts { IfOk result (λ node. node.cuts ≡ []) }
@@ -74,6 +74,56 @@ impl NodeLp {
             lp,
             cuts: Vec::new(alloc),
         })
+    }
+
+    /// The relaxation of a path's node over a core that is named, before any solve: the rows of its cities and of its path, no cut, and
+    /// the pairs that the path wants and those of `pairs`, in either order, that it leaves undecided. What is no pair of cities is passed
+    /// over. O(k d) for k pairs and a path of d conditions.
+    pub fn over(
+        alloc: Global,
+        instance: &Instance,
+        path: &Path,
+        pairs: &[(u32, u32)],
+    ) -> Result<NodeLp, AllocError>
+        requires path_cities { path.now.n ≡ instance.now.n }
+        requires few_cliques { cliques path.now.conditions ≤ 2097152 }
+        ensures node { IfOk result (IsNodeLp instance.now path.now.conditions) }
+        ensures no_cuts { IfOk result (λ node. node.cuts ≡ []) }
+        ensures unsolved { IfOk result (λ node. node.program.last ≡ None) }
+        ensures no_rounds { IfOk result (λ node. node.program.rounds ≡ 0) }
+        ensures few { IfOk result (λ node. length node.program.rows ≤ 2099152) }
+    {
+        let rows = first_rows(alloc, instance.n(), path)?;
+        let mut lp = Lp::new(alloc, instance.n(), rows)?;
+        add_core_of(instance, path, pairs, &mut lp)?;
+        Ok(NodeLp {
+            lp,
+            cuts: Vec::new(alloc),
+        })
+    }
+
+    /// A relaxation of the same node, before any solve, over the same core with some of its cuts: of those in their order the ones
+    /// that `kept` says, 65,536 at most. Its first solve begins at the basis at which this one stands.
+    pub fn without(
+        &self,
+        alloc: Global,
+        instance: &Instance,
+        path: &Path,
+        kept: &[bool],
+    ) -> Result<NodeLp, AllocError>
+        requires path_cities { path.now.n ≡ instance.now.n }
+        requires few_cliques { cliques path.now.conditions ≤ 2097152 }
+        ensures node { IfOk result (IsNodeLp instance.now path.now.conditions) }
+        ensures unsolved { IfOk result (λ node. node.program.last ≡ None) }
+        ensures no_rounds { IfOk result (λ node. node.program.rounds ≡ 0) }
+        ensures few { IfOk result (λ node. length node.program.rows ≤ 2164688) }
+    {
+        let pairs = pairs_of(alloc, self.lp.cols())?;
+        let mut node = NodeLp::over(alloc, instance, path, &pairs)?;
+        let cuts = cuts_kept(alloc, &self.cuts, kept)?;
+        node.begin_with(alloc, &cuts)?;
+        node.want(basis_without(alloc, &self.lp, &self.cuts, kept)?);
+        Ok(node)
     }
 
     /// How many cities there are.
@@ -105,6 +155,38 @@ impl NodeLp {
         ensures rows { AreCutRows self.now.program.n self.now.program.rows self.now.cuts }
     {
         &self.cuts
+    }
+
+    /// Names the basis at which the first solve is to begin: a hint, as [`Lp::want`] takes it.
+    pub fn want(&mut self, basis: Basis)
+        ensures { self.new ≡ self.old }
+    {
+        self.lp.want(basis);
+    }
+
+    /// Adds a row for each of some cuts, whether or not the newest values violate it: so a program begins with the cuts of a like
+    /// one. A cut of another number of cities is passed over, and so is one that is there. On an error some of them were added.
+    pub fn begin_with(&mut self, alloc: Global, cuts: &[Cut]) -> Result<(), AllocError>
+        requires few { length cuts.now ≤ 65536 }
+        requires room { length self.old.program.rows + 65536 ≤ 4194304 }
+        ensures { OnOk result (AreFurther (length cuts.now) self.old self.new) }
+    {
+        for cut in cuts {
+            self.begin_with_one(alloc, cut)?;
+        }
+        Ok(())
+    }
+
+    /// Adds a row for a cut, unless it is of another number of cities or is there.
+    fn begin_with_one(&mut self, alloc: Global, cut: &Cut) -> Result<(), AllocError>
+        requires room { length self.old.program.rows < 4194304 }
+        ensures { OnOk result (AreFurther 1 self.old self.new) }
+    {
+        if cut.n() == self.lp.n() {
+            self.add_cut(alloc, cut.copy(alloc)?)?;
+            return Ok(());
+        }
+        Ok(())
     }
 
     /// Solves the program, by at most 100,000 pivots.

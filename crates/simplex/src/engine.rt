@@ -4,10 +4,12 @@
 //! negative, so the basis of all slacks is dual feasible, and stays so: the basic variable whose infeasibility weighs most
 //! leaves, and the ratio test finds who enters, and which columns go over to their other bound on the way. A new row comes
 //! with its slack basic; a new column starts at the bound that its reduced cost asks for: so every solve goes on from the
-//! last. Costs bear a tiny perturbation, fixed for a column's life, against cycling; at the end the duals are found anew by
+//! last. A first solve may also begin at a basis that is named, as that of a like program. Costs bear a tiny perturbation, which is
+//! a pair's wherever it stands, against cycling; at the end the duals are found anew by
 //! the true costs, with iterative refinement. A pivot costs O(entries of the factors, and cells of the rows that the pivot
 //! row of the inverse meets). Nothing is proved of it but that it is safe and ends: the check decides what its answer is worth.
 //! (Lemke 1954; Forrest and Goldfarb 1992; Maros 2003; Koberstein's survey of the dual simplex.)
+use crate::basis::Basis;
 use lpcheck::{Cells, Column, Row};
 use std::alloc::{AllocError, Global};
 
@@ -19,6 +21,7 @@ mod numbers;
 mod pivot;
 mod ratio;
 mod refine;
+mod start;
 mod tolerances;
 
 use factors::Factors;
@@ -35,19 +38,21 @@ enum State {
     Fixed,
 }
 
-/// A variable: a column of the program, or the slack of a row.
+/// A variable: a column of the program, the slack of a row, or the column that a named basis has and the program lacks.
 #[derive(Clone, Copy)]
 enum Variable {
     Column(u32),
     Slack(u32),
+    Gone,
 }
 
-/// A structural variable, which is a column: its value is from 0 to one, or one where it is fixed.
+/// A structural variable, which is a column: its value is from 0 to one, or one value alone where it is fixed.
 #[derive(Drop)]
 struct Structural {
     cost: i64,
     perturbation: i64,
     fixed: bool,
+    fixed_value: i64,
     entries: Vec<Entry>,
     value: i64,
 }
@@ -115,7 +120,11 @@ pub struct Engine {
     ray: Vec<i64>,
     // costs are shifted right so far
     cost_shift: u32,
-    seed: u64,
+    // where the first solve is to begin
+    wanted: Option<Basis>,
+    // the column that leaves the basis for good, if there is one, and its pair
+    gone: Vec<Structural>,
+    gone_pair: (u32, u32),
 }
 
 impl Engine {
@@ -135,7 +144,9 @@ impl Engine {
             duals: Vec::new(alloc),
             ray: Vec::new(alloc),
             cost_shift: 0,
-            seed: 11,
+            wanted: None,
+            gone: Vec::new(alloc),
+            gone_pair: (0, 0),
         }
     }
 
@@ -154,9 +165,52 @@ impl Engine {
             engine = Engine::new(alloc);
         }
         engine.cost_shift = engine.cost_shift.max(shift);
+        let wanted = engine.wanted.take();
+        let is_first = engine.structurals.is_empty();
         engine.grow(alloc, table, rows, cols)?;
+        if let Some(basis) = wanted {
+            if is_first {
+                engine.begin_at(alloc, rows, &basis)?;
+            }
+        }
         engine.iterate(alloc, table, pivots)?;
         Ok(engine)
+    }
+
+    /// Names the basis at which the first run is to begin.
+    pub fn want(&mut self, basis: Basis) {
+        self.wanted = Some(basis);
+    }
+
+    /// Whether the next run is to begin at a named basis.
+    pub fn is_wanting(&self) -> bool {
+        self.wanted.is_some()
+    }
+
+    /// Whether a column is basic.
+    pub fn is_basic(&self, column: usize) -> bool {
+        match self.priced.get(column) {
+            Some(priced) => priced.state == State::Basic,
+            None => false,
+        }
+    }
+
+    /// Whether the slack of a row is basic.
+    pub fn is_slack_basic(&self, row: usize) -> bool {
+        match self.slacks.get(row) {
+            Some(slack) => slack.state == State::Basic,
+            None => true,
+        }
+    }
+
+    /// The reduced cost of a column, in units; 0 in the basis.
+    pub fn reduced_cost(&self, column: usize) -> i64 {
+        match self.priced.get(column) {
+            Some(priced) if priced.state != State::Basic => {
+                priced.reduced_cost >> (12u32.saturating_sub(self.cost_shift).min(12))
+            }
+            _ => 0,
+        }
     }
 
     /// The value of a column, in units.

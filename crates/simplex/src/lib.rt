@@ -2,12 +2,14 @@
 #![tactic(auto)]
 
 mod answer;
+mod basis;
 mod columns;
 mod engine;
 mod lp;
 mod made;
 
 pub use answer::LpAnswer;
+pub use basis::Basis;
 pub use lp::Lp;
 pub use lpcheck::{Column, Row, Sense};
 

@@ -6,6 +6,7 @@ ghost use Rattle.simplex.specs.Columns.{AreColumns, is_col};
 ghost use Rattle.simplex.specs.Lp.{IsAnswer, IsSolve, is_counted, duals_in};
 
 use crate::LpAnswer;
+use crate::basis::Basis;
 use crate::columns::Columns;
 use crate::engine::Engine;
 use crate::made::{answer_of, is_new_to};
@@ -31,6 +32,14 @@ pub struct Lp {
     old_duals: Vec<i64>,
     rounds: u32,
     last: Option<LpAnswer>,
+}
+
+/// Whether an answer is rough.
+fn is_rough(answer: &LpAnswer) -> bool {
+    match answer {
+        LpAnswer::Solved { .. } => false,
+        LpAnswer::Rough { .. } => true,
+    }
 }
 
 /// What a solve found: the engine as it stands, the table of all coefficients, whether the solve counts, the answer, and its duals.
@@ -161,6 +170,29 @@ impl Lp {
         self.rounds
     }
 
+    /// Names the basis at which the first solve is to begin. That is a hint: where the solve from there ends rough, it begins
+    /// once more at the basis of all slacks. A later solve goes on from the one before it.
+    pub fn want(&mut self, basis: Basis)
+        ensures { self.new ≡ self.old }
+    {
+        self.engine.want(basis);
+    }
+
+    /// Whether a column is basic since the newest solve: a hint.
+    pub fn is_basic(&self, column: usize) -> bool {
+        self.engine.is_basic(column)
+    }
+
+    /// Whether the slack of a row is basic since the newest solve: a hint.
+    pub fn is_slack_basic(&self, row: usize) -> bool {
+        self.engine.is_slack_basic(row)
+    }
+
+    /// The reduced cost of a column at the duals of the newest solve, in units, up to rounding; 0 where it is basic: a hint.
+    pub fn reduced_cost(&self, column: usize) -> i64 {
+        self.engine.reduced_cost(column)
+    }
+
     /// Whether a solve would count.
     fn counts(&self, alloc: Global, table: &[Cells]) -> Result<bool, AllocError>
         requires { table.now ≡ table_of self.now.rows self.now.cols }
@@ -201,8 +233,18 @@ impl Lp {
         let cols = self.columns.all();
         let table = grow_table(alloc, table, &self.rows, cols, from)?;
         let counted = self.counts(alloc, &table)?;
-        let engine = engine.run(alloc, &table, &self.rows, cols, pivots)?;
-        let (answer, duals) = answer_of(alloc, self.n, &engine, &table, &self.rows, cols)?;
+        let is_wanting = engine.is_wanting();
+        let (engine, answer, duals) = self.run(alloc, engine, &table, pivots)?;
+        if is_wanting && is_rough(&answer) {
+            let (engine, answer, duals) = self.run(alloc, Engine::new(alloc), &table, pivots)?;
+            return Ok(Found {
+                engine,
+                table,
+                counted,
+                answer,
+                duals,
+            });
+        }
         Ok(Found {
             engine,
             table,
@@ -210,6 +252,24 @@ impl Lp {
             answer,
             duals,
         })
+    }
+
+    /// What an engine finds over the whole table, with the answer's duals.
+    fn run(
+        &self,
+        alloc: Global,
+        engine: Engine,
+        table: &[Cells],
+        pivots: u32,
+    ) -> Result<(Engine, LpAnswer, Vec<i64>), AllocError>
+        requires { table.now ≡ table_of self.now.rows self.now.cols }
+        ensures answer { IfOk result (λ r. IsAnswer self.now.n self.now.rows self.now.cols r.1) }
+        ensures duals { IfOk result (λ r. duals_in r.1 ≡ r.2.items) }
+    {
+        let cols = self.columns.all();
+        let engine = engine.run(alloc, table, &self.rows, cols, pivots)?;
+        let (answer, duals) = answer_of(alloc, self.n, &engine, table, &self.rows, cols)?;
+        Ok((engine, answer, duals))
     }
 
     /// Solves the program by at most so many pivots, going on from the newest solve. The answer is Solved exactly where the

@@ -6,10 +6,18 @@ use super::{BasisRow, Engine, Priced, Slack, State, Structural, Variable, dot};
 use lpcheck::{Cells, Column, Row, Sense};
 use std::alloc::{AllocError, Global};
 
-/// The next of some pseudo-random numbers.
-fn next(seed: u64) -> u64 {
-    seed.wrapping_mul(6_364_136_223_846_793_005)
-        .wrapping_add(1_442_695_040_888_963_407)
+/// The tiny cost that a pair bears, in whichever program it has a column: drawn from its cities by a mix of words (the
+/// finalizer of MurmurHash3), since the duals of degree rows would absorb what is linear in them.
+pub fn perturbation_of(u: u32, v: u32) -> i64 {
+    let mut word = (u64::from(u) << 32) ^ u64::from(v);
+    word = (word ^ (word >> 33) ^ 11).wrapping_mul(0xff51_afd7_ed55_8ccd);
+    word = (word ^ (word >> 33)).wrapping_mul(0xc4ce_b9fe_1a85_ec53);
+    ((word ^ (word >> 33)) >> PERTURBATION_SHIFT) as i64
+}
+
+/// A cost as the engine has it, shifted right by so many bits.
+pub fn scaled_cost(cost: u32, shift: u32) -> i64 {
+    (i64::from(cost).wrapping_mul(ONE)) >> (shift.min(32 - COST_BITS))
 }
 
 /// A coefficient that is negated and multiplied by.
@@ -30,7 +38,7 @@ impl Engine {
         let old_rows = self.slacks.len();
         let old_cols = self.structurals.len();
         for column in cols.iter().skip(old_cols) {
-            self.add_structural(alloc, column, cols.len())?;
+            self.add_structural(alloc, column)?;
         }
         for (cells, place) in table.iter().zip(0..old_rows) {
             self.add_entries(cells, place, old_cols)?;
@@ -43,22 +51,12 @@ impl Engine {
     }
 
     /// A new column, without its entries.
-    fn add_structural(
-        &mut self,
-        alloc: Global,
-        column: &Column,
-        all: usize,
-    ) -> Result<(), AllocError> {
-        self.seed = next(self.seed);
-        let part = (self.seed >> PERTURBATION_SHIFT) as i64;
-        let many = (all & 0xffff_ffff) as i64;
-        let perturbation = part.wrapping_div(many.wrapping_add(1).max(1));
-        let cost = (i64::from(column.cost).wrapping_mul(ONE))
-            >> (self.cost_shift.min(32 - COST_BITS));
+    fn add_structural(&mut self, alloc: Global, column: &Column) -> Result<(), AllocError> {
         self.structurals.push(Structural {
-            cost,
-            perturbation,
+            cost: scaled_cost(column.cost, self.cost_shift),
+            perturbation: perturbation_of(column.u, column.v),
             fixed: column.must,
+            fixed_value: ONE,
             entries: Vec::new(alloc),
             value: if column.must { ONE } else { 0 },
         })?;
@@ -118,6 +116,7 @@ impl Engine {
     fn add_row(&mut self, row: &Row, cells: &Cells) -> Result<(), AllocError> {
         let place = self.slacks.len();
         self.add_entries(cells, place, 0)?;
+        self.add_gone_entry(row, place)?;
         let rhs = i64::from(row.rhs).wrapping_mul(ONE);
         let mut value = rhs;
         for cell in cells.list() {

@@ -143,6 +143,7 @@ impl Engine {
                     *to = ONE;
                 }
             }
+            Variable::Gone => {}
         }
         self.factors.ftran(&mut self.work);
     }
@@ -202,6 +203,11 @@ impl Engine {
                     high: 0,
                 },
             },
+            Variable::Gone => Bounds {
+                value: 0,
+                low: 0,
+                high: 0,
+            },
         }
     }
 
@@ -215,6 +221,7 @@ impl Engine {
                 Some(slack) => slack.reduced_cost,
                 None => 0,
             },
+            Variable::Gone => 0,
         }
     }
 
@@ -229,7 +236,8 @@ impl Engine {
                     priced.state = state;
                     priced.reduced_cost = reduced_cost;
                     structural.value = match state {
-                        State::Basic | State::Fixed => structural.value,
+                        State::Basic => structural.value,
+                        State::Fixed => structural.fixed_value,
                         State::AtLower => 0,
                         State::AtUpper => ONE,
                     };
@@ -244,6 +252,11 @@ impl Engine {
                         State::AtLower | State::Fixed => slack.low,
                         State::AtUpper => slack.high,
                     };
+                }
+            }
+            Variable::Gone => {
+                if let Some(structural) = self.gone.get_mut(0) {
+                    structural.value = 0;
                 }
             }
         }

@@ -3,8 +3,21 @@ use super::factoring::{Factoring, NONE};
 use super::lists::{Lists, narrow};
 use super::numbers::ONE;
 use super::tolerances::{LAST_REFINEMENTS, RAY_LENGTH, REFINEMENTS};
-use super::{BasisRow, Engine, State, Variable, dot};
+use super::{BasisRow, Engine, State, Structural, Variable, dot};
 use std::alloc::{AllocError, Global};
+
+/// Takes what some variables have of each row off a list by rows.
+fn take_values_off(list: &mut [i64], structurals: &[Structural]) {
+    for structural in structurals {
+        if structural.value != 0 {
+            for entry in &structural.entries {
+                if let Some(to) = list.get_mut(entry.row as usize) {
+                    *to = to.wrapping_sub(entry.coef.wrapping_mul(structural.value));
+                }
+            }
+        }
+    }
+}
 
 impl Engine {
     /// Factors the basis anew, and mends what was carried along since it was factored before.
@@ -61,6 +74,13 @@ impl Engine {
                 Variable::Slack(i) => {
                     columns.push(i, ONE)?;
                 }
+                Variable::Gone => {
+                    for structural in &self.gone {
+                        for entry in &structural.entries {
+                            columns.push(entry.row, entry.coef.wrapping_mul(ONE))?;
+                        }
+                    }
+                }
             }
             columns.close(place);
             place = place.wrapping_add(1);
@@ -116,6 +136,11 @@ impl Engine {
                         slack.value = row.value;
                     }
                 }
+                Variable::Gone => {
+                    if let Some(structural) = self.gone.get_mut(0) {
+                        structural.value = row.value;
+                    }
+                }
             }
         }
     }
@@ -125,15 +150,8 @@ impl Engine {
         for (to, slack) in self.work.iter_mut().zip(&self.slacks) {
             *to = slack.rhs.wrapping_sub(slack.value);
         }
-        for structural in self.structurals.iter() {
-            if structural.value != 0 {
-                for entry in &structural.entries {
-                    if let Some(to) = self.work.get_mut(entry.row as usize) {
-                        *to = to.wrapping_sub(entry.coef.wrapping_mul(structural.value));
-                    }
-                }
-            }
-        }
+        take_values_off(&mut self.work, &self.structurals);
+        take_values_off(&mut self.work, &self.gone);
     }
 
     /// Refines the values of the basic variables by what the rows lack.
@@ -167,6 +185,20 @@ impl Engine {
                 },
                 Variable::Slack(i) => match self.duals.get(i as usize) {
                     Some(y) => y.wrapping_neg(),
+                    None => 0,
+                },
+                Variable::Gone => match self.gone.first() {
+                    Some(structural) => {
+                        let perturbation = if perturbed {
+                            structural.perturbation
+                        } else {
+                            0
+                        };
+                        structural
+                            .cost
+                            .wrapping_add(perturbation)
+                            .wrapping_sub(dot(&structural.entries, &self.duals))
+                    }
                     None => 0,
                 },
             };

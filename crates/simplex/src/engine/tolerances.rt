@@ -34,9 +34,9 @@ pub const RAY_LENGTH: i64 = 288_230_376_151_711_744;
 /// Costs are shifted right until the greatest has about 20 bits, so that duals in 2^-32 have room in 64 bits.
 pub const COST_BITS: u32 = 20;
 
-/// A word of 64 pseudo-random bits is shifted right by this for a perturbation, which is then below 2^-4. It is divided by one
-/// more than the number of columns, so that all of them together hardly move the optimum.
-pub const PERTURBATION_SHIFT: u32 = 36;
+/// A word of 64 pseudo-random bits is shifted right by this for a perturbation, which is then below 2^-14: so small that those of
+/// a thousand columns together hardly move the optimum.
+pub const PERTURBATION_SHIFT: u32 = 46;
 
 /// Rounds of iterative refinement: of the duals by the perturbed costs and of the values after a factoring, and of the duals
 /// by the true costs at the end. One more gained nothing measurable.

@@ -1,15 +1,25 @@
-use Rattle.std.proofs.Common.{arith}
-use Rattle.grunt.proofs.RowLemmas.{few_rows, first_counts}
+use Rattle.std.proofs.Common.{◌≡◌, ℕ, ◌<◌, true, sym, ap, subst, ◌∙◌, arith}
+use Rattle.simplex.specs.Lp.{Program}
+use Rattle.nodelp.specs.Node.{Node, IsClean}
+use Rattle.grunt.specs.Rounds.{HasGrown}
+use Rattle.grunt.proofs.RowLemmas.{begun_ready, grown_ready}
 use Rattle.grunt.proofs.rounds.rounds.Goals as goal
 
-pub loop-init : goal.loop-init
-loop-init g c =
+pub loop-alloc-init : goal.loop-alloc-init
+loop-alloc-init g c = begun_ready c.args.instance.now c.args.path.now.conditions c.args.node.now c.requires.begun
+
+pub grow-requires-clause-clean : goal.grow-requires-clause-clean
+grow-requires-clause-clean g c = subst (λ (m : Node). IsClean m.program) (sym (c.in_ok-purge.ensures.same c.if-branch.false)) c.in_ok-newest.ensures.look.clean
+
+pub loop-alloc-preserved : goal.loop-alloc-preserved
+loop-alloc-preserved g c =
     let i = c.args.instance.now in
-    let node = c.args.node.now in
-    let rows = few_rows i c.args.path.now.conditions node c.n-n.ensures.instance.few c.requires.few_cliques c.requires.no_cuts c.requires.node in
-    record {
-      is_lp = c.requires.node;
-      counted = first_counts node.program c.requires.unsolved;
-      rounds = c.requires.no_rounds;
-      rows = omega arith;
-    }
+    let path = c.args.path.now.conditions in
+    let before = c.loop-alloc.node in
+    let same = c.in_ok-purge.ensures.same c.if-branch.false in
+    let now : c.rounds.result ≡ before.program.rounds = c.rounds.ensures ∙ ap (λ (p : Program). p.rounds) c.lp.ensures in
+    let test = c.loop-alloc-test.true in
+    let few : before.program.rounds < 199 = omega (arith, now, test) in
+    let more : c.in_ok-grow.field-0 ≡ true = grind (arith, c.if-not-branch.false) in
+    grown_ready i path before c.solved.new.node c.grow.new.node c.loop-alloc.invariant few c.in_ok-newest.ensures.rounds c.in_ok-newest.ensures.rows
+    (subst (λ (m : Node). HasGrown i path m c.grow.new.node) same (c.in_ok-grow.ensures.grown more))
