@@ -1,5 +1,6 @@
 #!/usr/bin/env bash
-# Runs the commands of each folder of examples/ and compares what they print with its file `stdout`. Takes a second or two.
+# Runs the commands of each folder of examples/ and compares what they print with its file `stdout`; and sees that the examples of the man pages
+# are among them. Takes a second or two.
 #
 #   bench/examples.sh [NAME..]             (default all)
 #   bench/examples.sh --write [NAME..]     writes what they print into the files
@@ -45,6 +46,17 @@ for command in "$top"/examples/*/command; do
         wrong=1
     fi
 done
+# the examples of the man pages are among them
+if [ $# = 0 ]; then
+    for page in "$top"/docs/*.1; do
+        while IFS= read -r line; do
+            if ! cat "$top"/examples/*/command | grep -qxF -- "$line"; then
+                echo "examples.sh: $(basename "$page") has a command that is no example: $line" >&2
+                wrong=1
+            fi
+        done < <(sed -n '/^\.SH EXAMPLES/,/^\.fi/p' "$page" | grep -E '^tsp')
+    done
+fi
 [ "$count" -gt 0 ] || { echo "examples.sh: no such example" >&2; exit 2; }
 [ "$wrong" != 0 ] || echo "examples.sh: $count examples print what they should"
 exit "$wrong"
