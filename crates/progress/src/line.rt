@@ -58,7 +58,8 @@ fn add_bound(line: &mut String, best: u64, bound: Option<u64>) -> Result<(), All
         return Ok(());
     };
     add(line, ", estimated bound ", bound as u128)?;
-    add_percent(line, hundredths(best, bound))
+    add_percent(line, hundredths(best, bound))?;
+    Ok(())
 }
 
 /// Adds the seconds, the nodes and the best length.
@@ -69,7 +70,8 @@ fn add_standing(line: &mut String, standing: &Standing) -> Result<(), AllocError
     add(line, "", standing.seconds as u128)?;
     add(line, " s: settled ", standing.settled as u128)?;
     add(line, ", open ", standing.open as u128)?;
-    add(line, ", best ", standing.best as u128)
+    add(line, ", best ", standing.best as u128)?;
+    Ok(())
 }
 
 /// The line: ASCII, with no end.
