@@ -1,6 +1,6 @@
 //! The line that tells how a search stands.
 ghost use Rattle.std.specs.Prelude.{◌≡◌, ℕ, ◌++◌, IfOk, string_bytes, decimal};
-ghost use Rattle.progress.specs.Lines.{line_text, standing_text, bound_text, percent, length_of_key, hundredths_missed};
+ghost use Rattle.progress.specs.Lines.{line_text, standing_text, estimate_text, percent, length_of_key, hundredths_missed};
 
 use std::alloc::{AllocError, Global};
 use std::fmt::Write;
@@ -40,7 +40,7 @@ fn add(line: &mut String, word: &str, number: u128) -> Result<(), AllocError>
     write!(line, "{word}{number}")
 }
 
-/// Adds hundredths as a number with two places behind its point.
+/// Adds hundredths of a percent, with two places behind the point.
 fn add_percent(line: &mut String, hundredths: u128) -> Result<(), AllocError>
     ensures { IfOk result (λ _. string_bytes line.new ≡ string_bytes line.old ++ percent hundredths) }
 {
@@ -50,28 +50,33 @@ fn add_percent(line: &mut String, hundredths: u128) -> Result<(), AllocError>
     line.push_str(" %")
 }
 
-/// Adds what is told of the bound.
-fn add_bound(line: &mut String, best: u64, bound: Option<u64>) -> Result<(), AllocError>
-    ensures { IfOk result (λ _. string_bytes line.new ≡ string_bytes line.old ++ bound_text best bound) }
+/// Adds the bound.
+fn add_estimate(line: &mut String, bound: u64) -> Result<(), AllocError>
+    ensures { IfOk result (λ _. string_bytes line.new ≡ string_bytes line.old ++ estimate_text bound) }
 {
-    let Some(bound) = bound else {
-        return Ok(());
-    };
-    add(line, ", estimated bound ", bound as u128)?;
-    add_percent(line, hundredths(best, bound))?;
-    Ok(())
+    write!(line, ", estimated bound {bound}")
 }
 
-/// Adds the seconds, the nodes and the best length.
-fn add_standing(line: &mut String, standing: &Standing) -> Result<(), AllocError>
-    ensures { IfOk result (λ _. string_bytes line.new ≡ string_bytes line.old
-        ++ standing_text standing.now.seconds standing.now.settled standing.now.open standing.now.best) }
+/// Adds the bound and the gap.
+fn add_bound(line: &mut String, best: u64, bound: u64) -> Result<(), AllocError>
+    ensures { IfOk result (λ _. string_bytes line.new ≡ string_bytes line.old ++ (estimate_text bound ++ percent (hundredths_missed best bound))) }
 {
-    add(line, "", standing.seconds as u128)?;
-    add(line, " s: settled ", standing.settled as u128)?;
-    add(line, ", open ", standing.open as u128)?;
-    add(line, ", best ", standing.best as u128)?;
-    Ok(())
+    let missed = hundredths(best, bound);
+    add_estimate(line, bound)?;
+    add_percent(line, missed)
+}
+
+/// The line without a bound.
+fn standing_line(
+    alloc: Global,
+    seconds: u64,
+    settled: u32,
+    free: u32,
+    best: u64,
+) -> Result<String, AllocError>
+    ensures { IfOk result (λ line. string_bytes line ≡ standing_text seconds settled free best) }
+{
+    format!(in alloc; "{seconds} s: settled {settled}, open {free}, best {best}")
 }
 
 /// The line: ASCII, with no end.
@@ -79,8 +84,16 @@ pub fn text(alloc: Global, standing: &Standing) -> Result<String, AllocError>
     ensures { IfOk result (λ line. string_bytes line
         ≡ line_text standing.now.seconds standing.now.settled standing.now.open standing.now.best standing.now.bound) }
 {
-    let mut line = String::new(alloc);
-    add_standing(&mut line, standing)?;
-    add_bound(&mut line, standing.best, standing.bound)?;
+    let mut line = standing_line(
+        alloc,
+        standing.seconds,
+        standing.settled,
+        standing.open,
+        standing.best,
+    )?;
+    let Some(bound) = standing.bound else {
+        return Ok(line);
+    };
+    add_bound(&mut line, standing.best, bound)?;
     Ok(line)
 }
