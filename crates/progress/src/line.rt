@@ -1,6 +1,6 @@
 //! The line that tells how a search stands.
 ghost use Rattle.std.specs.Prelude.{◌≡◌, ℕ, ◌++◌, IfOk, string_bytes, decimal};
-ghost use Rattle.progress.specs.Lines.{line_text, standing_text, estimate_text, percent, length_of_key, hundredths_missed};
+ghost use Rattle.progress.specs.Lines.{line_text, standing_text, seconds_text, nodes_text, best_text, estimate_text, percent, length_of_key, hundredths_missed};
 
 use std::alloc::{AllocError, Global};
 use std::fmt::Write;
@@ -10,8 +10,8 @@ use std::fmt::Write;
 #[derive(Clone, Copy, Debug, PartialEq, Eq)]
 pub struct Standing {
     pub seconds: u64,
-    pub settled: u32,
-    pub open: u32,
+    pub settled: u64,
+    pub open: u64,
     pub best: u64,
     pub bound: Option<u64>,
 }
@@ -66,17 +66,44 @@ fn add_bound(line: &mut String, best: u64, bound: u64) -> Result<(), AllocError>
     add_percent(line, missed)
 }
 
-/// The line without a bound.
-fn standing_line(
-    alloc: Global,
-    seconds: u64,
-    settled: u32,
-    free: u32,
-    best: u64,
-) -> Result<String, AllocError>
-    ensures { IfOk result (λ line. string_bytes line ≡ standing_text seconds settled free best) }
+/// Adds a word and a number of a field.
+fn add_field(line: &mut String, word: &str, number: u64) -> Result<(), AllocError>
+    ensures { IfOk result (λ _. string_bytes line.new ≡ string_bytes line.old ++ (word.now ++ decimal number)) }
 {
-    format!(in alloc; "{seconds} s: settled {settled}, open {free}, best {best}")
+    write!(line, "{word}{number}")
+}
+
+/// The seconds.
+fn seconds_line(alloc: Global, seconds: u64) -> Result<String, AllocError>
+    ensures { IfOk result (λ line. string_bytes line ≡ seconds_text seconds) }
+{
+    format!(in alloc; "{seconds} s: ")
+}
+
+/// Adds the nodes.
+fn add_nodes(line: &mut String, settled: u64, free: u64) -> Result<(), AllocError>
+    ensures { IfOk result (λ _. string_bytes line.new ≡ string_bytes line.old ++ nodes_text settled free) }
+{
+    add_field(line, "settled ", settled)?;
+    add_field(line, ", open ", free)
+}
+
+/// Adds the best length.
+fn add_best(line: &mut String, best: u64) -> Result<(), AllocError>
+    ensures { IfOk result (λ _. string_bytes line.new ≡ string_bytes line.old ++ best_text best) }
+{
+    write!(line, ", best {best}")
+}
+
+/// The line without a bound.
+fn standing_line(alloc: Global, standing: &Standing) -> Result<String, AllocError>
+    ensures { IfOk result (λ line. string_bytes line
+        ≡ standing_text standing.now.seconds standing.now.settled standing.now.open standing.now.best) }
+{
+    let mut line = seconds_line(alloc, standing.seconds)?;
+    add_nodes(&mut line, standing.settled, standing.open)?;
+    add_best(&mut line, standing.best)?;
+    Ok(line)
 }
 
 /// The line: ASCII, with no end.
@@ -84,13 +111,7 @@ pub fn text(alloc: Global, standing: &Standing) -> Result<String, AllocError>
     ensures { IfOk result (λ line. string_bytes line
         ≡ line_text standing.now.seconds standing.now.settled standing.now.open standing.now.best standing.now.bound) }
 {
-    let mut line = standing_line(
-        alloc,
-        standing.seconds,
-        standing.settled,
-        standing.open,
-        standing.best,
-    )?;
+    let mut line = standing_line(alloc, standing)?;
     let Some(bound) = standing.bound else {
         return Ok(line);
     };
