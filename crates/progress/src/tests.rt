@@ -47,7 +47,9 @@ fn lines_printed(rt: &impl AllocGlobal, how: How, seconds: &[u64]) -> u64 {
     };
     let progress = Progress::new(rt.alloc(), &outside, how);
     for second in seconds {
-        outside.seconds.store(second.saturating_add(1000), Ordering::SeqCst);
+        outside
+            .seconds
+            .store(second.saturating_add(1000), Ordering::SeqCst);
         progress.pass(1, 0, Point::AfterReport);
         progress.stands(40, 1, 0, None);
     }
@@ -64,7 +66,10 @@ fn the_line_of_a_search(rt: HostRuntime) -> Result<(), AllocError> {
         bound: Some(7500),
     };
     let line = text(rt.alloc(), &standing)?;
-    assert_eq!(rt; line.as_str(), "12 s: settled 34, open 5, best 7542, estimated bound 7500, gap 0.55 %");
+    assert_eq!(rt;
+        line.as_str(),
+        "12 s: settled 34, open 5, best 7542, estimated bound 7500, gap 0.55 %"
+    );
     Ok(())
 }
 
