@@ -56,7 +56,7 @@ fn found(alloc: Global, instance: &Instance, budget: u32, seed: u64) -> Result<B
     ensures { IfOk result (IsFound instance.now budget) }
 {
     few_cities_end();
-    let Search { boss, near } = anew(alloc, instance, budget, seed, 0)?;
+    let Search { boss, near } = anew(alloc, instance, budget, 1, seed, 0)?;
     let mut pool = CutPool::new(alloc, instance.n());
     let boss = alone(
         alloc, boss, &mut pool, instance, &near, &LpWorker, budget, seed, 0,

@@ -1,8 +1,8 @@
 //! Whole runs in which a read, a write, a bind or a call on a slot fails.
 
-use crate::tests::{CROSSED, Faults, NONE, ROOM, SQUARE, run_with, solved, words};
+use crate::tests::{CROSSED, Faults, NONE, OPEN, ROOM, SQUARE, run_with, solved, words};
 use crate::{Status, run};
-use ports::{MemDesk, MemSlots, SlotCall};
+use ports::{MemDesk, MemSlots, OpenGate, SlotCall};
 use slotstore::Store;
 use std::alloc::Global;
 use std::test::Fail;
@@ -10,7 +10,7 @@ use std::test::Fail;
 #[test]
 fn a_failing_save_leaves_the_other_slot(rt: HostRuntime) -> Result<(), Fail> {
     let alloc = rt.alloc();
-    let first = solved(alloc, "tspc solve a b c --budget 0", SQUARE)?;
+    let first = solved(&rt, alloc, "tspc solve a b c --budget 0", SQUARE)?;
     let kept = first.slots.slot(0);
     for k in 1..first.slots.entries().len() + 1 {
         let bad = [(SlotCall::Any, k as u64)];
@@ -27,7 +27,7 @@ fn a_failing_save_leaves_the_other_slot(rt: HostRuntime) -> Result<(), Fail> {
         )?;
         let mut slots = MemSlots::new(alloc, kept, b"", &bad, ROOM)?;
         let words = words(alloc, "tspc solve a b c --budget 0")?;
-        let status = run(&(), alloc, &words, &mut desk, &mut slots);
+        let status = run(&rt, alloc, &words, &mut desk, &mut slots, &OPEN, &OpenGate);
         assert_eq!(rt; status, Status::StoreFault);
         assert_eq!(rt; slots.slot(0), kept);
         assert_eq!(rt; desk.text(), b"".as_slice());
@@ -47,9 +47,10 @@ fn body_in(alloc: Global, slots: &mut MemSlots) -> Option<Vec<u8>> {
 #[test]
 fn a_failing_write_leaves_a_front(rt: HostRuntime) -> Result<(), Fail> {
     let alloc = rt.alloc();
-    let whole = solved(alloc, "tspc solve a b c", SQUARE)?;
+    let whole = solved(&rt, alloc, "tspc solve a b c", SQUARE)?;
     let proof = whole.desk.proof().len();
     let ended = run_with(
+        &rt,
         alloc,
         "tspc solve a b c",
         SQUARE,
@@ -66,6 +67,7 @@ fn a_failing_write_leaves_a_front(rt: HostRuntime) -> Result<(), Fail> {
     for k in 1..writes + 1 {
         let bad = [k as u64];
         let cut = run_with(
+            &rt,
             alloc,
             "tspc solve a b c",
             SQUARE,
@@ -82,6 +84,7 @@ fn a_failing_write_leaves_a_front(rt: HostRuntime) -> Result<(), Fail> {
         assert!(rt; whole.text().starts_with(cut.text()));
     }
     let unbound = run_with(
+        &rt,
         alloc,
         "tspc solve a b c",
         SQUARE,
@@ -101,6 +104,7 @@ fn a_failing_read_is_told(rt: HostRuntime) -> Result<(), Fail> {
     for k in 1..3 {
         let bad = [k];
         let ended = run_with(
+            &rt,
             alloc,
             "tspc solve a b c",
             SQUARE,
@@ -113,6 +117,7 @@ fn a_failing_read_is_told(rt: HostRuntime) -> Result<(), Fail> {
         assert_eq!(rt; ended.text(), b"".as_slice());
     }
     let unbound = run_with(
+        &rt,
         alloc,
         "tspc solve a b c",
         SQUARE,
@@ -123,6 +128,7 @@ fn a_failing_read_is_told(rt: HostRuntime) -> Result<(), Fail> {
     )?;
     assert_eq!(rt; unbound.status, Status::ReadFault);
     let past = run_with(
+        &rt,
         alloc,
         "tspc solve a b c",
         SQUARE,
@@ -144,6 +150,7 @@ fn failing_slots_matter_where_they_are_used(rt: HostRuntime) -> Result<(), Fail>
         (SlotCall::Write, 3),
     ];
     let unused = run_with(
+        &rt,
         alloc,
         "tspc solve a b c",
         SQUARE,
@@ -155,6 +162,7 @@ fn failing_slots_matter_where_they_are_used(rt: HostRuntime) -> Result<(), Fail>
     assert_eq!(rt; unused.status, Status::Optimal);
     assert_eq!(rt; unused.text(), b"OPTIMAL 40\nTOUR 1 2 3 4\n".as_slice());
     let used = run_with(
+        &rt,
         alloc,
         "tspc solve a b c --budget 0",
         SQUARE,
@@ -168,6 +176,7 @@ fn failing_slots_matter_where_they_are_used(rt: HostRuntime) -> Result<(), Fail>
     // A first read that fails stands in the way of both.
     for line in ["tspc solve a b c", "tspc solve a b c --budget 0"] {
         let unread = run_with(
+            &rt,
             alloc,
             line,
             SQUARE,
@@ -179,10 +188,11 @@ fn failing_slots_matter_where_they_are_used(rt: HostRuntime) -> Result<(), Fail>
         assert_eq!(rt; unread.status, Status::StoreFault);
         assert_eq!(rt; unread.text(), b"".as_slice());
     }
-    let whole = solved(alloc, "tspc solve a b c --budget 0", SQUARE)?;
+    let whole = solved(&rt, alloc, "tspc solve a b c --budget 0", SQUARE)?;
     for k in 0..whole.slots.entries().len() {
         let one = [(SlotCall::Any, k as u64 + 1)];
         let ended = run_with(
+            &rt,
             alloc,
             "tspc solve a b c --budget 0",
             SQUARE,

@@ -7,6 +7,7 @@
 #![tactic(auto)]
 
 mod benching;
+mod crew;
 mod outcomes;
 mod publishing;
 mod running;

@@ -1,10 +1,12 @@
 //! Whole runs that go on with what the slots hold, and runs with a gap.
 
-use crate::tests::{CROSSED, ROOM, SQUARE, solved, verified, words};
+use crate::tests::{CROSSED, OPEN, ROOM, SQUARE, solved, verified, words};
 use crate::{Status, run};
-use ports::{MemDesk, MemSlots};
+use ports::{MemDesk, MemSlots, OpenGate};
 use std::alloc::{AllocError, Global};
+use std::sync::Wait;
 use std::test::Fail;
+use std::thread::Threads;
 
 /// Two triangles, and three pairs that join them.
 const PRISM: &str =
@@ -28,7 +30,8 @@ struct Ended {
     slots: MemSlots,
 }
 
-fn run_on(
+fn run_on<R: Threads + Wait + Sync>(
+    rt: &R,
     alloc: Global,
     line: &str,
     text: &str,
@@ -47,7 +50,7 @@ fn run_on(
         ROOM,
     )?;
     let mut slots = MemSlots::new(alloc, slot0, slot1, &[], ROOM)?;
-    let status = run(&(), alloc, &words(alloc, line)?, &mut desk, &mut slots);
+    let status = run(rt, alloc, &words(alloc, line)?, &mut desk, &mut slots, &OPEN, &OpenGate);
     Ok(Ended {
         status,
         desk,
@@ -58,10 +61,11 @@ fn run_on(
 #[test]
 fn a_stopped_search_goes_on(rt: HostRuntime) -> Result<(), Fail> {
     let alloc = rt.alloc();
-    let stopped = solved(alloc, "tspc solve a b c --budget 0", SQUARE)?;
+    let stopped = solved(&rt, alloc, "tspc solve a b c --budget 0", SQUARE)?;
     assert_eq!(rt; stopped.text(), b"STOPPED 40 1\n".as_slice());
     let line = "tspc solve a b c --resume --budget 1";
     let ended = run_on(
+        &rt,
         alloc,
         line,
         SQUARE,
@@ -70,11 +74,12 @@ fn a_stopped_search_goes_on(rt: HostRuntime) -> Result<(), Fail> {
     )?;
     assert_eq!(rt; ended.status, Status::Optimal);
     assert_eq!(rt; ended.desk.text(), b"OPTIMAL 40\nTOUR 1 2 3 4\n".as_slice());
-    let checked = verified(alloc, SQUARE, ended.desk.proof())?;
+    let checked = verified(&rt, alloc, SQUARE, ended.desk.proof())?;
     assert_eq!(rt; checked.text(), b"VERIFIED 40\n".as_slice());
     // With no budget left it stops again, and saves the same body to the other slot.
     let line = "tspc solve a b c --resume --budget 0";
     let again = run_on(
+        &rt,
         alloc,
         line,
         SQUARE,
@@ -108,7 +113,7 @@ fn bodies_that_are_none_are_refused(rt: HostRuntime) -> Result<(), Fail> {
     ];
     for (text, body, told) in rows {
         let slot = slot_of(alloc, body)?;
-        let ended = run_on(alloc, "tspc solve a b c --resume", text, &slot, b"")?;
+        let ended = run_on(&rt, alloc, "tspc solve a b c --resume", text, &slot, b"")?;
         assert_eq!(rt; ended.status, Status::BadRestart);
         assert_eq!(rt; ended.desk.text(), told);
         assert_eq!(rt; ended.slots.slot(0), slot.as_slice());
@@ -122,7 +127,7 @@ fn slots_without_a_body_are_refused(rt: HostRuntime) -> Result<(), Fail> {
     let alloc = rt.alloc();
     let rows: [&[u8]; 3] = [b"", b"\x01\0\xff\xff\xff\xff\xff\xff\xff\xff", b"\0\0old"];
     for slot in rows {
-        let ended = run_on(alloc, "tspc solve a b c --resume", SQUARE, slot, b"")?;
+        let ended = run_on(&rt, alloc, "tspc solve a b c --resume", SQUARE, slot, b"")?;
         assert_eq!(rt; ended.status, Status::BadRestart);
         assert_eq!(rt; ended.status.code(), 4);
         assert_eq!(rt; ended.desk.text(), b"RESTART 1 0\n".as_slice());
@@ -133,18 +138,18 @@ fn slots_without_a_body_are_refused(rt: HostRuntime) -> Result<(), Fail> {
 #[test]
 fn a_gap_is_allowed(rt: HostRuntime) -> Result<(), Fail> {
     let alloc = rt.alloc();
-    let ended = solved(alloc, "tspc solve a b c --gap 40 --budget 1", SQUARE)?;
+    let ended = solved(&rt, alloc, "tspc solve a b c --gap 40 --budget 1", SQUARE)?;
     assert_eq!(rt; ended.status, Status::Within);
     assert_eq!(rt; ended.status.code(), 10);
     assert_eq!(rt; ended.text(), b"WITHIN 40 0\nTOUR 1 2 3 4\n".as_slice());
     let proof = b"TSPCERT 2\nN 4\nLENGTH 40\nBOUND 0\nTOUR 1 2 3 4\nCUTS 0\nL 0 0 0\n".as_slice();
     assert_eq!(rt; ended.desk.proof(), proof);
-    let checked = verified(alloc, SQUARE, proof)?;
+    let checked = verified(&rt, alloc, SQUARE, proof)?;
     assert_eq!(rt; checked.text(), b"WITHIN 40 0\n".as_slice());
     // Without a gap its leaf is too weak, and is opened again.
     let slot = slot_of(alloc, proof)?;
     let line = "tspc solve a b c --resume --budget 1";
-    let resumed = run_on(alloc, line, SQUARE, &slot, b"")?;
+    let resumed = run_on(&rt, alloc, line, SQUARE, &slot, b"")?;
     assert_eq!(rt; resumed.status, Status::Optimal);
     assert_eq!(rt;
         resumed.desk.text(),
@@ -160,6 +165,7 @@ fn a_better_tour_of_the_body_is_kept(rt: HostRuntime) -> Result<(), Fail> {
     let body = b"TSPCERT 1\nN 4\nLENGTH 48\nTOUR 1 2 3 4\nCUTS 0\nO\n";
     let slot = slot_of(alloc, body)?;
     let ended = run_on(
+        &rt,
         alloc,
         "tspc solve a b c --resume --budget 0",
         CROSSED,

@@ -3,14 +3,17 @@ ghost use Rattle.std.specs.Prelude.{map, string_bytes};
 ghost use Rattle.tspengine.specs.Runs.{Runs};
 
 use crate::benching::bench;
+use crate::crew::Crew;
 use crate::solving::solve;
 use crate::statuses::Status;
 use crate::touring::tour;
 use crate::usage::usage;
 use crate::verifying::verify;
-use ports::{Desk, Slots};
+use ports::{Desk, Gate, PlainPosts, Posts, Slots, WorsePosts};
 use resume_form::bodies_have_one_reading;
 use std::alloc::Global;
+use std::sync::Wait;
+use std::thread::Threads;
 use tspwords::{Command, WordsError, read_command, taken_words_are_given};
 
 /// Does what the words of a command line say, of which the first is the program's name, and says how it ended.
@@ -32,12 +35,14 @@ use tspwords::{Command, WordsError, read_command, taken_words_are_given};
 /// Each command has a record of how it ends, by its status (`specs/Runs.antt`); what the statuses of an answer promise stands in
 /// `specs/Headline.antt`. Where the desk or the slots do not tell what they hold, these speak of the counts of faults alone. Only
 /// `solve` touches the slots.
-pub fn run<R, D: Desk, L: Slots>(
-    _rt: &R,
+pub fn run<R: Threads + Wait + Sync, D: Desk, L: Slots, P: Posts + Sync, G: Gate + Sync>(
+    rt: &R,
     alloc: Global,
     words: &[String],
     desk: &mut D,
     slots: &mut L,
+    posts: &P,
+    gate: &G,
 ) -> Status
     ensures { Runs result (record {
       words = map string_bytes words.now;
@@ -62,7 +67,20 @@ pub fn run<R, D: Desk, L: Slots>(
     bodies_have_one_reading();
     taken_words_are_given();
     match read_command(alloc, words) {
-        Ok(Command::Solve(words)) => solve(alloc, &words, desk, slots),
+        Ok(Command::Solve(words)) => {
+            let told = PlainPosts {
+                lose: words.lose,
+                twice: words.twice,
+                late: words.late,
+            };
+            let posts = WorsePosts::new(&told, posts);
+            let crew = Crew {
+                rt,
+                posts: &posts,
+                gate,
+            };
+            solve(&crew, alloc, &words, desk, slots)
+        }
         Ok(Command::Verify(words)) => verify(alloc, &words, desk),
         Ok(Command::Tour(words)) => tour(alloc, &words, desk),
         Ok(Command::Bench(words)) => bench(alloc, &words, desk),

@@ -1,5 +1,6 @@
-//! A search in rounds, after each of which the way so far is saved.
+//! A search: in rounds by grunts in threads, then alone, with the way so far saved on and on.
 ghost use Rattle.std.specs.Prelude.{◌≡◌, ◌<◌, true, false, IfOk, OnOk, OnErr, IsErrOf};
+ghost use Rattle.std.specs.Arc.{arc_value};
 ghost use Rattle.ports.specs.Outside.{BothTell, WhereTold, Cause};
 ghost use Rattle.tspdef.specs.Trees.{open_leaves};
 ghost use Rattle.treebook.specs.Tables.{tree_of};
@@ -7,23 +8,31 @@ ghost use Rattle.slotstore.specs.Standing.{StandsFor};
 ghost use Rattle.tspengine.specs.Searches.{start_in, IsSearch};
 ghost use Rattle.tspengine.specs.Rounds.{HasEnded, IsFurther, Searches, KeepsSlots, SavesOne, FailsToSave};
 
+use crate::crew::{Crew, Field};
 use crate::outcomes::text_of;
 use crate::starting::{Halt, Search};
-use bossx::Boss;
-use cutpool::CutPool;
+use bossx::{Boss, events_are_charged};
+use cutpool::SharedPool;
 use grunt::LpWorker;
-use ports::Slots;
+use ports::{Gate, Posts, Slots};
 use slotstore::Store;
-use std::alloc::Global;
+use std::alloc::{AllocError, Global};
+use std::sync::{Arc, Wait};
+use std::thread::Threads;
 use tspinst::Instance;
-use tspround::alone;
+use tspround::{Round, alone, rounds};
 
-/// After so many settled nodes a body is saved.
+/// After so many settled nodes of the search alone a body is saved.
 const TURNS: u32 = 1024;
 
-/// Works until no node is open or the budget is settled. After each 1,024 settled nodes it saves a body to go on from, where a node is
-/// open and the budget is not settled. One pool of cuts serves all nodes.
-pub(crate) fn search<L: Slots>(
+/// At so many lost leases the grunts go home, and the search goes on alone.
+const MOST_LOST: u32 = 256;
+
+/// Works until no node is open or the budget is settled: first by grunts in threads, in rounds, and then alone. After each round, and
+/// after each 1,024 nodes that are settled alone, it saves a body to go on from, where a node is open and the budget is not settled.
+/// One pool of cuts serves all nodes.
+pub(crate) fn search<R: Threads + Wait + Sync, L: Slots, P: Posts + Sync, G: Gate + Sync>(
+    crew: &Crew<'_, R, P, G>,
     alloc: Global,
     instance: &Instance,
     search: Search,
@@ -41,12 +50,133 @@ pub(crate) fn search<L: Slots>(
     ensures saved { BothTell (Searches result search.boss (L.past slots.old) (L.past slots.new)) (L.told slots.old) (L.told slots.new) }
     ensures cause { Cause (IsErrOf result Halt.StoreFault) (L.faults slots.old) (L.faults slots.new) }
 {
-    let Search { mut boss, near } = search;
-    let mut pool = CutPool::new(alloc, instance.n());
+    let Search { boss, near } = search;
+    let field = Field {
+        near,
+        pool: SharedPool::new(alloc, instance.n())?,
+        instance: Arc::new(alloc, instance.copy(alloc)?)?,
+        seed,
+    };
+    let boss = search_in_rounds(crew, alloc, &field, boss, slots, store)?;
+    search_alone(crew, alloc, &field, boss, slots, store)
+}
+
+/// Sends the grunts out, round by round, while that gets on: while a node is open, the budget is not settled and few leases are lost,
+/// and the last round settled a node or lost a lease.
+fn search_in_rounds<R: Threads + Wait + Sync, L: Slots, P: Posts + Sync, G: Gate + Sync>(
+    crew: &Crew<'_, R, P, G>,
+    alloc: Global,
+    field: &Field,
+    mut boss: Boss,
+    slots: &mut L,
+    store: &mut Store,
+) -> Result<Boss, Halt>
+    requires stands { WhereTold (StandsFor store.old) (L.told slots.old) }
+    requires search { IsSearch boss }
+    requires instance { arc_value field.now.instance ≡ boss.instance }
+    requires cities { field.now.near.n ≡ boss.instance.n }
+    ensures stands { OnOk result (WhereTold (StandsFor store.new) (L.told slots.new)) }
+    ensures further { IfOk result (IsFurther boss) }
+    ensures saved { BothTell (Searches result boss (L.past slots.old) (L.past slots.new)) (L.told slots.old) (L.told slots.new) }
+    ensures cause { Cause (IsErrOf result Halt.StoreFault) (L.faults slots.old) (L.faults slots.new) }
+{
+    for _ in 0..boss.budget() + MOST_LOST + 1 {
+        if !wants_grunts(&boss) {
+            break;
+        }
+        let before = (boss.settled(), boss.leases().lost());
+        boss = play_round(crew, alloc, field, boss)?;
+        if goes_on(&boss) {
+            save(alloc, &boss, slots, store)?;
+        }
+        if before == (boss.settled(), boss.leases().lost()) {
+            break;
+        }
+    }
+    Ok(boss)
+}
+
+/// Whether grunts may get on: a node is open, the budget is not settled, and few leases are lost.
+fn wants_grunts(boss: &Boss) -> bool
+    ensures some { result ≡ true → 0 < boss.now.grunts }
+{
+    goes_on(boss) && boss.grunts() > 0 && boss.leases().lost() < MOST_LOST
+}
+
+/// One round of the grunts. After it none of them holds a lease.
+fn play_round<R: Threads + Wait + Sync, P: Posts + Sync, G: Gate + Sync>(
+    crew: &Crew<'_, R, P, G>,
+    alloc: Global,
+    field: &Field,
+    boss: Boss,
+) -> Result<Boss, AllocError>
+    requires search { IsSearch boss }
+    requires some { 0 < boss.grunts }
+    requires instance { arc_value field.now.instance ≡ boss.instance }
+    requires cities { field.now.near.n ≡ boss.instance.n }
+    ensures further { IfOk result (IsFurther boss) }
+{
+    let gap = boss.gap();
+    let Round { mut boss, .. } = rounds(
+        crew.rt,
+        alloc,
+        boss,
+        &field.pool,
+        field.instance.try_clone()?,
+        &field.near,
+        &LpWorker,
+        crew.posts,
+        crew.gate,
+        field.seed,
+        gap,
+    )?;
+    dismiss(&mut boss);
+    Ok(boss)
+}
+
+/// Whatever a grunt still holds is lost.
+fn dismiss(boss: &mut Boss)
+    requires { IsSearch boss.old }
+    ensures { IsFurther boss.old boss.new }
+{
+    events_are_charged();
+    for grunt in 1..=boss.grunts() {
+        boss.gone(grunt);
+    }
+}
+
+/// Works alone until no node is open or the budget is settled, and saves after each 1,024 settled nodes.
+fn search_alone<R: Threads + Wait + Sync, L: Slots, P: Posts + Sync, G: Gate + Sync>(
+    crew: &Crew<'_, R, P, G>,
+    alloc: Global,
+    field: &Field,
+    mut boss: Boss,
+    slots: &mut L,
+    store: &mut Store,
+) -> Result<Boss, Halt>
+    requires stands { WhereTold (StandsFor store.old) (L.told slots.old) }
+    requires search { IsSearch boss }
+    requires instance { arc_value field.now.instance ≡ boss.instance }
+    requires cities { field.now.near.n ≡ boss.instance.n }
+    ensures stands { OnOk result (WhereTold (StandsFor store.new) (L.told slots.new)) }
+    ensures further { IfOk result (IsFurther boss) }
+    ensures ended { IfOk result HasEnded }
+    ensures saved { BothTell (Searches result boss (L.past slots.old) (L.past slots.new)) (L.told slots.old) (L.told slots.new) }
+    ensures cause { Cause (IsErrOf result Halt.StoreFault) (L.faults slots.old) (L.faults slots.new) }
+{
+    let mut seat = field.pool.seat(crew.rt);
     loop {
         let gap = boss.gap();
         boss = alone(
-            alloc, boss, &mut pool, instance, &near, &LpWorker, TURNS, seed, gap,
+            alloc,
+            boss,
+            &mut seat,
+            &field.instance,
+            &field.near,
+            &LpWorker,
+            TURNS,
+            field.seed,
+            gap,
         )?;
         if !goes_on(&boss) {
             return Ok(boss);

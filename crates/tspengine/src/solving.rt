@@ -13,27 +13,33 @@ ghost use Rattle.tspengine.specs.Begun.{IsSearchAt};
 ghost use Rattle.tspengine.specs.Searches.{start_in};
 ghost use Rattle.tspengine.specs.Solving.{IsBegun, IsSearched, Solves, IsRefusedCall, IsPublished};
 
+use crate::crew::Crew;
 use crate::outcomes::{Closed, Outcome, outcome_of};
 use crate::publishing::{publish, refuse};
 use crate::searching::search;
 use crate::starting::{Begun, Halt, Search, begin};
 use crate::statuses::Status;
 use crate::texts::restart_text;
-use ports::{Desk, Outlet, Slots, write_all};
+use ports::{Desk, Gate, Outlet, Posts, Slots, write_all};
 use slotstore::Store;
 use std::alloc::Global;
+use std::sync::Wait;
+use std::thread::Threads;
 use tspinst::Instance;
 use tspwords::Solve;
 use verification::{Reading, Unread, read_instance};
 
 /// Reads an instance, searches, and writes down what was found.
-pub(crate) fn solve<D: Desk, L: Slots>(
+pub(crate) fn solve<R: Threads + Wait + Sync, D: Desk, L: Slots, P: Posts + Sync, G: Gate + Sync>(
+    crew: &Crew<'_, R, P, G>,
     alloc: Global,
     words: &Solve,
     desk: &mut D,
     slots: &mut L,
 ) -> Status
-    requires { words.now.budget ≤ 65536 }
+    requires few { words.now.budget ≤ 65536 }
+    requires some_grunts { 1 ≤ words.now.grunts }
+    requires few_grunts { words.now.grunts ≤ 64 }
     ensures ends { (c : Call) → SaysSolve c.words words.now
         → Solves result (on_slots (L.told slots.old) (L.past slots.old) (L.told slots.new) (L.past slots.new) (on_desk (D.told desk.old) (D.told desk.new) c)) }
     ensures reads { Cause (result ≡ Status.ReadFault) (D.read_faults desk.old) (D.read_faults desk.new) }
@@ -41,7 +47,9 @@ pub(crate) fn solve<D: Desk, L: Slots>(
     ensures store { Cause (result ≡ Status.StoreFault) (L.faults slots.old) (L.faults slots.new) }
 {
     match read_instance(alloc, desk, &words.instance) {
-        Ok(Reading::Instance(instance)) => solve_instance(alloc, words, &instance, desk, slots),
+        Ok(Reading::Instance(instance)) => {
+            solve_instance(crew, alloc, words, &instance, desk, slots)
+        },
         Ok(Reading::Refused(refusal)) => refuse(alloc, desk, refusal),
         Err(Unread::Failed) => Status::ReadFault,
         Err(Unread::NoMemory) => Status::NoMemory,
@@ -49,14 +57,17 @@ pub(crate) fn solve<D: Desk, L: Slots>(
 }
 
 /// Binds the slots and begins the store on them, the instance being read, and goes on with it.
-fn solve_instance<D: Desk, L: Slots>(
+fn solve_instance<R: Threads + Wait + Sync, D: Desk, L: Slots, P: Posts + Sync, G: Gate + Sync>(
+    crew: &Crew<'_, R, P, G>,
     alloc: Global,
     words: &Solve,
     instance: &Instance,
     desk: &mut D,
     slots: &mut L,
 ) -> Status
-    requires { words.now.budget ≤ 65536 }
+    requires few { words.now.budget ≤ 65536 }
+    requires some_grunts { 1 ≤ words.now.grunts }
+    requires few_grunts { words.now.grunts ≤ 64 }
     ensures ends { (c : Call) → SaysSolve c.words words.now
         → BothTell (ReadsInstance (instance_word c.words) instance.now) c.before.desk (D.told desk.old)
         → c.before.slots ≡ L.told slots.old
@@ -71,13 +82,16 @@ fn solve_instance<D: Desk, L: Slots>(
         return Status::StoreFault;
     }
     match Store::begin(slots) {
-        Ok(mut store) => solve_on(alloc, words, instance, desk, slots, &mut store),
+        Ok(mut store) => {
+            solve_on(crew, alloc, words, instance, desk, slots, &mut store)
+        },
         Err(_) => Status::StoreFault,
     }
 }
 
 /// Begins the search as the words say, the store being begun, or tells why the slots hold no body to go on from.
-fn solve_on<D: Desk, L: Slots>(
+fn solve_on<R: Threads + Wait + Sync, D: Desk, L: Slots, P: Posts + Sync, G: Gate + Sync>(
+    crew: &Crew<'_, R, P, G>,
     alloc: Global,
     words: &Solve,
     instance: &Instance,
@@ -86,6 +100,8 @@ fn solve_on<D: Desk, L: Slots>(
     store: &mut Store,
 ) -> Status
     requires few { words.now.budget ≤ 65536 }
+    requires some_grunts { 1 ≤ words.now.grunts }
+    requires few_grunts { words.now.grunts ≤ 64 }
     requires stands { WhereTold (StandsFor store.old) (L.told slots.old) }
     ensures ends { (c : Call) → SaysSolve c.words words.now
         → BothTell (ReadsInstance (instance_word c.words) instance.now) c.before.desk (D.told desk.old)
@@ -97,7 +113,9 @@ fn solve_on<D: Desk, L: Slots>(
     ensures store { Cause (result ≡ Status.StoreFault) (L.faults slots.old) (L.faults slots.new) }
 {
     match begin(alloc, words, instance, slots, store) {
-        Ok(Begun::Search(search)) => solve_by(alloc, words, instance, search, desk, slots, store),
+        Ok(Begun::Search(search)) => {
+            solve_by(crew, alloc, words, instance, search, desk, slots, store)
+        },
         Ok(Begun::Refused(refusal, line)) => refuse_body(alloc, desk, refusal, line),
         Err(halt) => halted(halt),
     }
@@ -130,7 +148,8 @@ fn refuse_body<D: Desk>(alloc: Global, desk: &mut D, refusal: u32, line: u64) ->
 }
 
 /// Searches, and writes down what was found.
-fn solve_by<D: Desk, L: Slots>(
+fn solve_by<R: Threads + Wait + Sync, D: Desk, L: Slots, P: Posts + Sync, G: Gate + Sync>(
+    crew: &Crew<'_, R, P, G>,
     alloc: Global,
     words: &Solve,
     instance: &Instance,
@@ -151,7 +170,7 @@ fn solve_by<D: Desk, L: Slots>(
     ensures writes { Cause (result ≡ Status.WriteFault) (D.write_faults desk.old) (D.write_faults desk.new) }
     ensures store { Cause (result ≡ Status.StoreFault) (L.faults slots.old) (L.faults slots.new) }
 {
-    let boss = match search(alloc, instance, begun, slots, store, words.seed) {
+    let boss = match search(crew, alloc, instance, begun, slots, store, words.seed) {
         Ok(boss) => boss,
         Err(halt) => return halted(halt),
     };

@@ -55,6 +55,8 @@ pub(crate) fn begin<L: Slots>(
 ) -> Result<Begun, Halt>
     requires stands { WhereTold (StandsFor store.now) (L.told slots.old) }
     requires few { words.now.budget ≤ 65536 }
+    requires some_grunts { 1 ≤ words.now.grunts }
+    requires few_grunts { words.now.grunts ≤ 64 }
     ensures begun { IfOk result (IsBegun instance.now words.now.budget words.now.gap) }
     ensures anew { words.now.resume ≡ false → IfOk result (IsBegunAnew instance.now) }
     ensures resumed { words.now.resume ≡ true
@@ -66,7 +68,14 @@ pub(crate) fn begin<L: Slots>(
     if words.resume {
         resume(alloc, words, instance, slots, store)
     } else {
-        let search = anew(alloc, instance, words.budget, words.seed, words.gap)?;
+        let search = anew(
+            alloc,
+            instance,
+            words.budget,
+            words.grunts,
+            words.seed,
+            words.gap,
+        )?;
         Ok(Begun::Search(search))
     }
 }
@@ -76,16 +85,19 @@ pub(crate) fn anew(
     alloc: Global,
     instance: &Instance,
     budget: u32,
+    grunts: u32,
     seed: u64,
     gap: u64,
 ) -> Result<Search, AllocError>
     requires few { budget ≤ 65536 }
+    requires some_grunts { 1 ≤ grunts }
+    requires few_grunts { grunts ≤ 64 }
     ensures { IfOk result (IsFreshSearch instance.now budget gap) }
 {
     nothing_is_split_at_the_start::<LpWorker>();
     let Opening { near, tour } = find_opening(alloc, instance, seed)?;
     let tree = Tree::with_fixed(alloc, instance.n(), instance.fixed())?;
-    let boss = Boss::start(alloc, instance, tree, tour, budget, 1, gap)?;
+    let boss = Boss::start(alloc, instance, tree, tour, budget, grunts, gap)?;
     Ok(Search { boss, near })
 }
 
@@ -99,6 +111,8 @@ fn resume<L: Slots>(
 ) -> Result<Begun, Halt>
     requires stands { WhereTold (StandsFor store.now) (L.told slots.old) }
     requires few { words.now.budget ≤ 65536 }
+    requires some_grunts { 1 ≤ words.now.grunts }
+    requires few_grunts { words.now.grunts ≤ 64 }
     ensures begun { IfOk result (IsBegun instance.now words.now.budget words.now.gap) }
     ensures resumed { IfOk result (λ b. WhereTold (λ t. IsBegunWith instance.now words.now.budget words.now.gap (loaded t) b) (L.told slots.old)) }
     ensures told { L.told slots.new ≡ L.told slots.old }
@@ -116,6 +130,8 @@ fn resume<L: Slots>(
 /// Begins with a body, where it is one.
 fn begin_with(alloc: Global, words: &Solve, instance: &Instance, body: &[u8]) -> Result<Begun, Halt>
     requires few { words.now.budget ≤ 65536 }
+    requires some_grunts { 1 ≤ words.now.grunts }
+    requires few_grunts { words.now.grunts ≤ 64 }
     ensures begun { IfOk result (IsBegun instance.now words.now.budget words.now.gap) }
     ensures resumed { IfOk result (IsBegunWith instance.now words.now.budget words.now.gap (Some body.now)) }
     ensures no_fault { IsErrOf result Halt.StoreFault → ⊥ }
@@ -128,6 +144,7 @@ fn begin_with(alloc: Global, words: &Solve, instance: &Instance, body: &[u8]) ->
                 tree,
                 tour,
                 words.budget,
+                words.grunts,
                 words.seed,
                 words.gap,
             )?;
@@ -145,9 +162,12 @@ fn go_on(
     tree: Tree,
     tour: Tour,
     budget: u32,
+    grunts: u32,
     seed: u64,
     gap: u64,
 ) -> Result<Search, AllocError>
+    requires some_grunts { 1 ≤ grunts }
+    requires few_grunts { grunts ≤ 64 }
     requires cities { tree.n ≡ instance.now.n }
     requires fixed { tree.fixed ≡ instance.now.fixed }
     requires tour { IsTourOf instance.now tour }
@@ -157,7 +177,7 @@ fn go_on(
 {
     events_are_charged();
     nothing_is_split_at_the_start::<LpWorker>();
-    let mut boss = Boss::start(alloc, instance, tree, tour, budget, 1, gap)?;
+    let mut boss = Boss::start(alloc, instance, tree, tour, budget, grunts, gap)?;
     let Opening { near, tour } = find_opening(alloc, instance, seed)?;
     boss.offer(&tour);
     Ok(Search { boss, near })

@@ -5,9 +5,11 @@ ghost use Rattle.std.specs.Prelude.{◌<◌};
 
 use crate::{Status, run};
 use cyc::Tour;
-use ports::{Inlet, MemDesk, MemSlots, Room, SlotCall};
+use ports::{Inlet, MemDesk, MemSlots, OpenGate, PlainPosts, Room, SlotCall};
 use std::alloc::{AllocError, Global};
+use std::sync::Wait;
 use std::test::Fail;
+use std::thread::Threads;
 use tspgen::make;
 use tspplain::search::least_tour;
 use tspplain::tours::tour_length;
@@ -20,6 +22,13 @@ pub(crate) const ROOM: Room = Room {
     bytes: 1 << 20,
     paths: 64,
     calls: 100_000,
+};
+
+/// Posts that lose, repeat and delay nothing.
+pub(crate) const OPEN: PlainPosts = PlainPosts {
+    lose: 0,
+    twice: false,
+    late: false,
 };
 
 /// What is to fail.
@@ -73,7 +82,8 @@ pub(crate) fn words(alloc: Global, line: &str) -> Result<Vec<String>, AllocError
 }
 
 /// Runs the words of a line on an instance's text.
-pub(crate) fn run_with(
+pub(crate) fn run_with<R: Threads + Wait + Sync>(
+    rt: &R,
     alloc: Global,
     line: &str,
     text: &str,
@@ -93,7 +103,7 @@ pub(crate) fn run_with(
         ROOM,
     )?;
     let mut slots = MemSlots::new(alloc, b"", b"", faults.bad_slots, ROOM)?;
-    let status = run(&(), alloc, &words(alloc, line)?, &mut desk, &mut slots);
+    let status = run(rt, alloc, &words(alloc, line)?, &mut desk, &mut slots, &OPEN, &OpenGate);
     Ok(Ended {
         status,
         desk,
@@ -101,12 +111,12 @@ pub(crate) fn run_with(
     })
 }
 
-pub(crate) fn solved(alloc: Global, line: &str, text: &str) -> Result<Ended, AllocError> {
-    run_with(alloc, line, text, &NONE)
+pub(crate) fn solved<R: Threads + Wait + Sync>(rt: &R, alloc: Global, line: &str, text: &str) -> Result<Ended, AllocError> {
+    run_with(rt, alloc, line, text, &NONE)
 }
 
 /// Verifies the bytes of a proof, beside slots that hold something.
-pub(crate) fn verified(alloc: Global, text: &str, proof: &[u8]) -> Result<Ended, AllocError> {
+pub(crate) fn verified<R: Threads + Wait + Sync>(rt: &R, alloc: Global, text: &str, proof: &[u8]) -> Result<Ended, AllocError> {
     let mut desk = MemDesk::new(
         alloc,
         text.as_bytes(),
@@ -120,7 +130,7 @@ pub(crate) fn verified(alloc: Global, text: &str, proof: &[u8]) -> Result<Ended,
     )?;
     let mut slots = MemSlots::new(alloc, b"old", b"new", &[], ROOM)?;
     let words = words(alloc, "tspc verify a b")?;
-    let status = run(&(), alloc, &words, &mut desk, &mut slots);
+    let status = run(rt, alloc, &words, &mut desk, &mut slots, &OPEN, &OpenGate);
     Ok(Ended {
         status,
         desk,
@@ -138,7 +148,7 @@ fn is_bound_to(path: Option<&[u8]>, word: &[u8]) -> bool {
 #[test]
 fn small_instances_are_solved(rt: HostRuntime) -> Result<(), Fail> {
     let alloc = rt.alloc();
-    let square = solved(alloc, "tspc solve a b c", SQUARE)?;
+    let square = solved(&rt, alloc, "tspc solve a b c", SQUARE)?;
     assert_eq!(rt; square.status, Status::Optimal);
     assert_eq!(rt; square.text(), b"OPTIMAL 40\nTOUR 1 2 3 4\n".as_slice());
     assert!(rt;
@@ -150,10 +160,11 @@ fn small_instances_are_solved(rt: HostRuntime) -> Result<(), Fail> {
     assert!(rt; is_bound_to(square.desk.proof_path(), b"b"));
     assert!(rt; is_bound_to(square.slots.path(), b"c"));
     assert_eq!(rt; square.slots.slot(0), b"".as_slice());
-    let budgeted = solved(alloc, "tspc solve a b c --budget 200", SQUARE)?;
+    let budgeted = solved(&rt, alloc, "tspc solve a b c --budget 200", SQUARE)?;
     assert_eq!(rt; budgeted.status, Status::Optimal);
     assert_eq!(rt; budgeted.desk.proof(), square.desk.proof());
     let triangle = solved(
+        &rt,
         alloc,
         "tspc solve a b c --budget 200",
         "TYPE : TSP\nDIMENSION : 3\nEDGE_WEIGHT_TYPE : EUC_2D\nNODE_COORD_SECTION\n1 0 0\n2 3 0\n3 0 4\n",
@@ -161,6 +172,7 @@ fn small_instances_are_solved(rt: HostRuntime) -> Result<(), Fail> {
     assert_eq!(rt; triangle.status, Status::Optimal);
     assert_eq!(rt; triangle.text(), b"OPTIMAL 12\nTOUR 1 2 3\n".as_slice());
     let point = solved(
+        &rt,
         alloc,
         "tspc solve a b c",
         "TYPE : TSP\nDIMENSION : 4\nEDGE_WEIGHT_TYPE : EUC_2D\nNODE_COORD_SECTION\n1 5 5\n2 5 5\n3 5 5\n4 5 5\n",
@@ -177,8 +189,8 @@ fn small_instances_are_solved(rt: HostRuntime) -> Result<(), Fail> {
 #[test]
 fn proofs_are_verified_and_refused(rt: HostRuntime) -> Result<(), Fail> {
     let alloc = rt.alloc();
-    let square = solved(alloc, "tspc solve a b c", SQUARE)?;
-    let checked = verified(alloc, SQUARE, square.desk.proof())?;
+    let square = solved(&rt, alloc, "tspc solve a b c", SQUARE)?;
+    let checked = verified(&rt, alloc, SQUARE, square.desk.proof())?;
     assert_eq!(rt; checked.status, Status::Verified);
     assert_eq!(rt; checked.text(), b"VERIFIED 40\n".as_slice());
     assert_eq!(rt; checked.desk.proof(), b"".as_slice());
@@ -186,16 +198,17 @@ fn proofs_are_verified_and_refused(rt: HostRuntime) -> Result<(), Fail> {
     assert_eq!(rt; checked.slots.slot(1), b"new".as_slice());
     assert_eq!(rt; checked.slots.entries().len(), 0);
     let within = verified(
+        &rt,
         alloc,
         SQUARE,
         b"TSPCERT 2\nN 4\nLENGTH 40\nBOUND 0\nTOUR 1 2 3 4\nCUTS 0\nL 0 0 0\n",
     )?;
     assert_eq!(rt; within.status, Status::VerifiedWithin);
     assert_eq!(rt; within.text(), b"WITHIN 40 0\n".as_slice());
-    let refused = verified(alloc, SQUARE, b"")?;
+    let refused = verified(&rt, alloc, SQUARE, b"")?;
     assert_eq!(rt; refused.status, Status::Refused);
     assert_eq!(rt; refused.text(), b"REFUSED 1 1\n".as_slice());
-    let bad = verified(alloc, "", square.desk.proof())?;
+    let bad = verified(&rt, alloc, "", square.desk.proof())?;
     assert_eq!(rt; bad.status, Status::BadInstance);
     assert_eq!(rt; bad.text(), b"INSTANCE 13 0 1\n".as_slice());
     Ok(())
@@ -204,7 +217,7 @@ fn proofs_are_verified_and_refused(rt: HostRuntime) -> Result<(), Fail> {
 #[test]
 fn a_spent_budget_leaves_a_body(rt: HostRuntime) -> Result<(), Fail> {
     let alloc = rt.alloc();
-    let ended = solved(alloc, "tspc solve a b c --budget 0", SQUARE)?;
+    let ended = solved(&rt, alloc, "tspc solve a b c --budget 0", SQUARE)?;
     assert_eq!(rt; ended.status, Status::Stopped);
     assert_eq!(rt; ended.text(), b"STOPPED 40 1\n".as_slice());
     assert_eq!(rt; ended.desk.proof(), b"".as_slice());
@@ -213,7 +226,7 @@ fn a_spent_budget_leaves_a_body(rt: HostRuntime) -> Result<(), Fail> {
         b"\x01\0\0\0\0\0\0\0\0\x2eTSPCERT 1\nN 4\nLENGTH 40\nTOUR 1 2 3 4\nCUTS 0\nO\n".as_slice()
     );
     assert_eq!(rt; ended.slots.slot(1), b"".as_slice());
-    let closed = solved(alloc, "tspc solve a b c --budget 1", SQUARE)?;
+    let closed = solved(&rt, alloc, "tspc solve a b c --budget 1", SQUARE)?;
     assert_eq!(rt; closed.status, Status::Optimal);
     assert_eq!(rt; closed.text(), b"OPTIMAL 40\nTOUR 1 2 3 4\n".as_slice());
     Ok(())
@@ -226,6 +239,7 @@ const SQUARE_TOUR: &[u8] =
 fn subtour_cuts_close_a_root(rt: HostRuntime) -> Result<(), Fail> {
     let alloc = rt.alloc();
     let groups = solved(
+        &rt,
         alloc,
         "tspc solve a b c --budget 1",
         "TYPE : TSP\nDIMENSION : 6\nEDGE_WEIGHT_TYPE : EXPLICIT\nEDGE_WEIGHT_FORMAT : UPPER_ROW\nEDGE_WEIGHT_SECTION\n1 1 10 10 10 1 10 10 10 10 10 10 1 1 1\n",
@@ -240,6 +254,7 @@ fn subtour_cuts_close_a_root(rt: HostRuntime) -> Result<(), Fail> {
 fn combs_close_a_root(rt: HostRuntime) -> Result<(), Fail> {
     let alloc = rt.alloc();
     let prism = solved(
+        &rt,
         alloc,
         "tspc solve a b c --budget 1",
         "TYPE : TSP\nDIMENSION : 6\nEDGE_WEIGHT_TYPE : EXPLICIT\nEDGE_WEIGHT_FORMAT : UPPER_ROW\nEDGE_WEIGHT_SECTION\n1 1 0 100 100 1 100 0 100 100 100 0 1 1 1\n",
@@ -260,6 +275,7 @@ fn five_drawn_instances_are_solved(rt: HostRuntime) -> Result<(), Fail> {
     let alloc = rt.alloc();
     for seed in 1..6u32 {
         let ended = solved(
+            &rt,
             alloc,
             &format!(in alloc; "tspc bench {seed} 40 2000 p")?,
             "",
@@ -274,7 +290,7 @@ fn a_drawn_triangle_is_solved(rt: HostRuntime) -> Result<(), Fail> {
     let alloc = rt.alloc();
     let drawn = make(alloc, 1, 3)?;
     let around = drawn.length(&Tour::identity(alloc, 3)?);
-    let ended = solved(alloc, "tspc bench 1 3 16 p", "")?;
+    let ended = solved(&rt, alloc, "tspc bench 1 3 16 p", "")?;
     assert_eq!(rt; ended.status, Status::Benched);
     assert_eq!(rt;
         ended.text(),
@@ -283,7 +299,7 @@ fn a_drawn_triangle_is_solved(rt: HostRuntime) -> Result<(), Fail> {
     assert!(rt; is_bound_to(ended.desk.proof_path(), b"p"));
     assert!(rt; ended.desk.proof().starts_with(b"TSPCERT 1\nN 3\n"));
     assert_eq!(rt; ended.slots.entries().len(), 0);
-    let again = solved(alloc, "tspc bench 1 3 16 p", "")?;
+    let again = solved(&rt, alloc, "tspc bench 1 3 16 p", "")?;
     assert_eq!(rt; again.text(), ended.text());
     assert_eq!(rt; again.desk.proof(), ended.desk.proof());
     Ok(())
@@ -294,7 +310,7 @@ fn a_drawn_triangle_is_stopped(rt: HostRuntime) -> Result<(), Fail> {
     let alloc = rt.alloc();
     let drawn = make(alloc, 1, 3)?;
     let around = drawn.length(&Tour::identity(alloc, 3)?);
-    let ended = solved(alloc, "tspc bench 1 3 0 p", "")?;
+    let ended = solved(&rt, alloc, "tspc bench 1 3 0 p", "")?;
     assert_eq!(rt; ended.status, Status::BenchStopped);
     assert_eq!(rt;
         ended.text(),
@@ -307,7 +323,7 @@ fn a_drawn_triangle_is_stopped(rt: HostRuntime) -> Result<(), Fail> {
         bad_writes: &[5],
         ..NONE
     };
-    let torn = run_with(alloc, "tspc bench 1 3 0 p", "", &failing)?;
+    let torn = run_with(&rt, alloc, "tspc bench 1 3 0 p", "", &failing)?;
     assert_eq!(rt; torn.status, Status::WriteFault);
     assert_eq!(rt; torn.desk.proof(), b"TSPC".as_slice());
     assert_eq!(rt; torn.text(), b"".as_slice());
@@ -322,14 +338,14 @@ fn the_tour_of_a_square_is_printed(rt: HostRuntime) -> Result<(), Fail> {
         "tspc tour a --seed 0",
         "tspc tour a --seed 18446744073709551615",
     ] {
-        let ended = solved(alloc, line, SQUARE)?;
+        let ended = solved(&rt, alloc, line, SQUARE)?;
         assert_eq!(rt; ended.status, Status::Toured);
         assert_eq!(rt; ended.text(), SQUARE_TOUR);
         assert_eq!(rt; ended.desk.proof(), b"".as_slice());
         assert!(rt; ended.desk.proof_path().is_none());
         assert_eq!(rt; ended.slots.entries().len(), 0);
     }
-    let bad = solved(alloc, "tspc tour a", "")?;
+    let bad = solved(&rt, alloc, "tspc tour a", "")?;
     assert_eq!(rt; bad.status, Status::BadInstance);
     assert_eq!(rt; bad.text(), b"INSTANCE 13 0 1\n".as_slice());
     Ok(())
@@ -345,12 +361,13 @@ fn a_failing_call_cuts_a_tour_short(rt: HostRuntime) -> Result<(), Fail> {
             bad_writes: &bad,
             ..NONE
         };
-        let cut = run_with(alloc, "tspc tour a", SQUARE, &faults)?;
+        let cut = run_with(&rt, alloc, "tspc tour a", SQUARE, &faults)?;
         assert_eq!(rt; cut.status, Status::WriteFault);
         assert_eq!(rt; cut.text().len(), k - 1);
         assert!(rt; SQUARE_TOUR.starts_with(cut.text()));
     }
     let unread = run_with(
+        &rt,
         alloc,
         "tspc tour a",
         SQUARE,
@@ -383,11 +400,11 @@ fn random_points(alloc: Global, count: u32) -> Result<String, AllocError> {
 fn a_seed_chooses_the_tour(rt: HostRuntime) -> Result<(), Fail> {
     let alloc = rt.alloc();
     let text = random_points(alloc, 300)?;
-    let first = solved(alloc, "tspc tour a", &text)?;
+    let first = solved(&rt, alloc, "tspc tour a", &text)?;
     assert_eq!(rt; first.status, Status::Toured);
-    let named = solved(alloc, "tspc tour a --seed 1", &text)?;
+    let named = solved(&rt, alloc, "tspc tour a --seed 1", &text)?;
     assert_eq!(rt; named.text(), first.text());
-    let other = solved(alloc, "tspc tour a --seed 2", &text)?;
+    let other = solved(&rt, alloc, "tspc tour a --seed 2", &text)?;
     assert_eq!(rt; other.status, Status::Toured);
     assert!(rt; other.text() != first.text());
     Ok(())
@@ -400,7 +417,7 @@ pub(crate) const CROSSED: &str =
 #[test]
 fn a_search_starts_with_a_good_tour(rt: HostRuntime) -> Result<(), Fail> {
     let alloc = rt.alloc();
-    let ended = solved(alloc, "tspc solve a b c --seed 5 --budget 0", CROSSED)?;
+    let ended = solved(&rt, alloc, "tspc solve a b c --seed 5 --budget 0", CROSSED)?;
     assert_eq!(rt; ended.status, Status::Stopped);
     assert_eq!(rt; ended.text(), b"STOPPED 40 1\n".as_slice());
     assert_eq!(rt;
@@ -426,7 +443,7 @@ fn each_path_is_bound_once_where_it_is_used(rt: HostRuntime) -> Result<(), Fail>
         ("tspc tour", SQUARE, [0, 0, 0, 0]),
     ];
     for (line, text, binds) in rows {
-        let ended = solved(alloc, line, text)?;
+        let ended = solved(&rt, alloc, line, text)?;
         assert_eq!(rt; ended.binds(), binds, "{line}");
         assert_eq!(rt;
             is_bound_to(ended.desk.inlet_path(Inlet::Instance), b"a"),
@@ -457,7 +474,7 @@ fn a_refused_instance_is_read_to_its_end(rt: HostRuntime) -> Result<(), Fail> {
     let alloc = rt.alloc();
     let text = with_line(alloc, 3, "DIMENSION : 2")?;
     for line in ["tspc solve a b c", "tspc tour a", "tspc verify a b"] {
-        let ended = solved(alloc, line, &text)?;
+        let ended = solved(&rt, alloc, line, &text)?;
         assert_eq!(rt; ended.status, Status::BadInstance);
         assert_eq!(rt; ended.desk.left(Inlet::Instance), b"".as_slice(), "{line}");
     }
@@ -486,7 +503,7 @@ fn refusals_of_an_instance_are_printed(rt: HostRuntime) -> Result<(), Fail> {
         (9, "3 10 0", b"INSTANCE 10 9\n"),
     ];
     for (number, line, want) in rows {
-        let ended = solved(alloc, "tspc solve a b c", &with_line(alloc, number, line)?)?;
+        let ended = solved(&rt, alloc, "tspc solve a b c", &with_line(alloc, number, line)?)?;
         assert_eq!(rt; ended.status, Status::BadInstance);
         assert_eq!(rt; ended.text(), want);
         assert_eq!(rt; ended.desk.proof(), b"".as_slice());
@@ -503,7 +520,7 @@ fn refusals_of_an_instance_are_printed(rt: HostRuntime) -> Result<(), Fail> {
         ),
     ];
     for (text, want) in texts {
-        let ended = solved(alloc, "tspc solve a b c", text)?;
+        let ended = solved(&rt, alloc, "tspc solve a b c", text)?;
         assert_eq!(rt; ended.status, Status::BadInstance);
         assert_eq!(rt; ended.text(), want);
     }
@@ -531,7 +548,7 @@ fn other_words_are_usage(rt: HostRuntime) -> Result<(), Fail> {
         "tspc bench 1 3 5",
         "tspc solve a b c --seed -1",
     ] {
-        let ended = solved(alloc, line, SQUARE)?;
+        let ended = solved(&rt, alloc, line, SQUARE)?;
         assert_eq!(rt; ended.status, Status::Usage);
         assert_eq!(rt;
             ended.text(),
@@ -588,11 +605,11 @@ fn random_instances_have_the_length_of_the_least_tour(rt: HostRuntime) -> Result
         let (text, plain) = random_matrix(alloc, &mut state, round % 2 == 1)?;
         let best = least_tour(alloc, &plain)?.ok_or("no tour")?;
         let length = tour_length(&plain, &best);
-        let ended = solved(alloc, "tspc solve a b c", &text)?;
+        let ended = solved(&rt, alloc, "tspc solve a b c", &text)?;
         assert_eq!(rt; ended.status, Status::Optimal);
         let want = format!(in alloc; "OPTIMAL {length}\nTOUR 1 ")?;
         assert!(rt; ended.text().starts_with(want.as_bytes()));
-        let checked = verified(alloc, &text, ended.desk.proof())?;
+        let checked = verified(&rt, alloc, &text, ended.desk.proof())?;
         assert_eq!(rt; checked.status, Status::Verified);
         let told = format!(in alloc; "VERIFIED {length}\n")?;
         assert_eq!(rt; checked.text(), told.as_bytes());
