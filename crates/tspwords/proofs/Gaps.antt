@@ -10,7 +10,7 @@ use Rattle.tspwords.specs.Program.{IsTaken, command_word, rows_of_words, most_bu
 use Rattle.tspwords.specs.Laws.{IsPlain, ResumeIsTaken, GapsAreTaken, ResumeAndBudgetsAreTaken, GapsAndBudgetsAreTaken}
 use Rattle.tspwords.proofs.Numbers.{in_unsigned}
 use Rattle.tspwords.proofs.Options.{end_fault, level_free, path_rows}
-use Rattle.tspwords.proofs.PlainWords.{given, default_budget_row, default_seed_row, default_resume_row, default_gap_row, not_dashes, not_long, not_short, number_is_plain}
+use Rattle.tspwords.proofs.PlainWords.{given, default_budget_row, default_seed_row, default_resume_row, default_gap_row, default_team_rows, not_dashes, not_long, not_short, number_is_plain}
 use Rattle.tspwords.proofs.Taken.{solve_built}
 
 none_left : (w : Walk) → walk_fault solve_built [] w [] ≡ []
@@ -57,7 +57,7 @@ unfolding clap_on_literals
 resume_fault_free name a b c pa pb pc = ap (λ k. or_else k []) (resume_level a b c pa pb pc)
 
 resume_rows_are : (name a b c : Text) → IsPlain a → IsPlain b → IsPlain c
-    → rows_of_words (name ∷ codes "solve" ∷ a ∷ b ∷ c ∷ codes "--resume" ∷ []) ≡ resume_rows a b c ++ default_budget_row ∷ default_seed_row ∷ default_gap_row ∷ []
+    → rows_of_words (name ∷ codes "solve" ∷ a ∷ b ∷ c ∷ codes "--resume" ∷ []) ≡ resume_rows a b c ++ default_budget_row ∷ default_seed_row ∷ default_gap_row ∷ default_team_rows
 unfolding clap_on_literals
 resume_rows_are name a b c pa pb pc = ap (λ w. finished solve_built.rules w.held) (to_resume a b c [] pa pb pc)
 
@@ -76,6 +76,10 @@ resume_taken name a b c pa pb pc =
       seed_is = rw rows refl;
       resume_is = rw rows refl;
       gap_is = rw rows refl;
+      grunts_is = rw rows refl;
+      lose_is = rw rows refl;
+      twice_is = rw rows refl;
+      late_is = rw rows refl;
     }
 
 -- ---- `--resume --budget N`
@@ -116,7 +120,7 @@ unfolding clap_on_literals
 resume_budget_fault_free name a b c d pa pb pc pd is = ap (λ k. or_else k []) (resume_budget_level a b c d pa pb pc pd is)
 
 resume_budget_rows_are : (name a b c d : Text) → IsPlain a → IsPlain b → IsPlain c → IsPlain d
-    → rows_of_words (name ∷ codes "solve" ∷ a ∷ b ∷ c ∷ codes "--resume" ∷ codes "--budget" ∷ d ∷ []) ≡ resume_rows a b c ++ given (codes "budget") d ∷ default_seed_row ∷ default_gap_row ∷ []
+    → rows_of_words (name ∷ codes "solve" ∷ a ∷ b ∷ c ∷ codes "--resume" ∷ codes "--budget" ∷ d ∷ []) ≡ resume_rows a b c ++ given (codes "budget") d ∷ default_seed_row ∷ default_gap_row ∷ default_team_rows
 unfolding clap_on_literals
 resume_budget_rows_are name a b c d pa pb pc pd =
     ap (λ w. finished solve_built.rules w.held) (to_resume a b c (codes "--budget" ∷ d ∷ []) pa pb pc ∙ to_resume_budget a b c d pd)
@@ -137,6 +141,10 @@ resume_budgets_taken name a b c d pa pb pc fits =
       seed_is = rw rows refl;
       resume_is = rw rows refl;
       gap_is = rw rows refl;
+      grunts_is = rw rows refl;
+      lose_is = rw rows refl;
+      twice_is = rw rows refl;
+      late_is = rw rows refl;
     }
 
 -- ---- `--gap G`
@@ -177,7 +185,7 @@ unfolding clap_on_literals
 gap_fault_free name a b c d pa pb pc pd is = ap (λ k. or_else k []) (gap_level a b c d pa pb pc pd is)
 
 gap_rows_are : (name a b c d : Text) → IsPlain a → IsPlain b → IsPlain c → IsPlain d
-    → rows_of_words (name ∷ codes "solve" ∷ a ∷ b ∷ c ∷ codes "--gap" ∷ d ∷ []) ≡ path_rows a b c ++ given (codes "gap") d ∷ default_budget_row ∷ default_seed_row ∷ default_resume_row ∷ []
+    → rows_of_words (name ∷ codes "solve" ∷ a ∷ b ∷ c ∷ codes "--gap" ∷ d ∷ []) ≡ path_rows a b c ++ given (codes "gap") d ∷ default_budget_row ∷ default_seed_row ∷ default_resume_row ∷ default_team_rows
 unfolding clap_on_literals
 gap_rows_are name a b c d pa pb pc pd = ap (λ w. finished solve_built.rules w.held) (to_gap a b c d [] pa pb pc pd)
 
@@ -197,6 +205,10 @@ gaps_taken name a b c d pa pb pc fits =
       seed_is = rw rows refl;
       resume_is = rw rows refl;
       gap_is = rw rows refl;
+      grunts_is = rw rows refl;
+      lose_is = rw rows refl;
+      twice_is = rw rows refl;
+      late_is = rw rows refl;
     }
 
 -- ---- `--gap G --budget N`
@@ -248,7 +260,7 @@ unfolding clap_on_literals
 gap_budget_fault_free name a b c d e pa pb pc pd pe is_d is_e = ap (λ k. or_else k []) (gap_budget_level a b c d e pa pb pc pd pe is_d is_e)
 
 gap_budget_rows_are : (name a b c d e : Text) → IsPlain a → IsPlain b → IsPlain c → IsPlain d → IsPlain e
-    → rows_of_words (name ∷ codes "solve" ∷ a ∷ b ∷ c ∷ codes "--gap" ∷ d ∷ codes "--budget" ∷ e ∷ []) ≡ path_rows a b c ++ given (codes "gap") d ∷ given (codes "budget") e ∷ default_seed_row ∷ default_resume_row ∷ []
+    → rows_of_words (name ∷ codes "solve" ∷ a ∷ b ∷ c ∷ codes "--gap" ∷ d ∷ codes "--budget" ∷ e ∷ []) ≡ path_rows a b c ++ given (codes "gap") d ∷ given (codes "budget") e ∷ default_seed_row ∷ default_resume_row ∷ default_team_rows
 unfolding clap_on_literals
 gap_budget_rows_are name a b c d e pa pb pc pd pe =
     ap (λ w. finished solve_built.rules w.held) (to_gap a b c d (codes "--budget" ∷ e ∷ []) pa pb pc pd ∙ to_budget a b c d e pe)
@@ -270,4 +282,8 @@ gaps_budgets_taken name a b c d e pa pb pc fits_d fits_e =
       seed_is = rw rows refl;
       resume_is = rw rows refl;
       gap_is = rw rows refl;
+      grunts_is = rw rows refl;
+      lose_is = rw rows refl;
+      twice_is = rw rows refl;
+      late_is = rw rows refl;
     }

@@ -2,6 +2,9 @@ pub mod PlainWords
 pub mod Numbers
 pub mod Given
 pub mod Taken
+pub mod Says
 pub mod Options
 pub mod Positionals
 pub mod Gaps
+pub mod Grunts
+pub mod Replays

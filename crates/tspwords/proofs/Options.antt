@@ -11,7 +11,7 @@ use Rattle.clap.proofs.OnLiterals.{clap_on_literals}
 use Rattle.tspwords.specs.Program.{IsTaken, command_word, rows_of_words, most_budget, most_seed}
 use Rattle.tspwords.specs.Laws.{IsPlain, BudgetsAndSeedsAreTaken}
 use Rattle.tspwords.proofs.Numbers.{in_unsigned}
-use Rattle.tspwords.proofs.PlainWords.{given, default_resume_row, default_gap_row, not_dashes, not_long, not_short, number_is_plain}
+use Rattle.tspwords.proofs.PlainWords.{given, default_resume_row, default_gap_row, default_team_rows, not_dashes, not_long, not_short, number_is_plain}
 use Rattle.tspwords.proofs.Taken.{solve_built}
 
 -- what may go wrong after the walk
@@ -96,7 +96,7 @@ unfolding clap_on_literals
 both_fault_free name a b c d e pa pb pc pd pe is_d is_e = ap (λ k. or_else k []) (both_level a b c d e pa pb pc pd pe is_d is_e)
 
 both_rows_are : (name a b c d e : Text) → IsPlain a → IsPlain b → IsPlain c → IsPlain d → IsPlain e
-    → rows_of_words (name ∷ codes "solve" ∷ a ∷ b ∷ c ∷ codes "--budget" ∷ d ∷ codes "--seed" ∷ e ∷ []) ≡ given (codes "instance") a ∷ given (codes "proof") b ∷ given (codes "restart") c ∷ given (codes "budget") d ∷ given (codes "seed") e ∷ default_resume_row ∷ default_gap_row ∷ []
+    → rows_of_words (name ∷ codes "solve" ∷ a ∷ b ∷ c ∷ codes "--budget" ∷ d ∷ codes "--seed" ∷ e ∷ []) ≡ given (codes "instance") a ∷ given (codes "proof") b ∷ given (codes "restart") c ∷ given (codes "budget") d ∷ given (codes "seed") e ∷ default_resume_row ∷ default_gap_row ∷ default_team_rows
 unfolding clap_on_literals
 both_rows_are name a b c d e pa pb pc pd pe =
     ap (λ w. finished solve_built.rules w.held) (to_budget a b c d (codes "--seed" ∷ e ∷ []) pa pb pc pd ∙ to_seed a b c d e pe)
@@ -118,4 +118,8 @@ both_taken name a b c d e pa pb pc fits_d fits_e =
       seed_is = rw rows refl;
       resume_is = rw rows refl;
       gap_is = rw rows refl;
+      grunts_is = rw rows refl;
+      lose_is = rw rows refl;
+      twice_is = rw rows refl;
+      late_is = rw rows refl;
     }

@@ -51,6 +51,22 @@ default_resume_row = filled (codes "resume") (codes "false")
 abbrev pub default_gap_row : Row
 default_gap_row = filled (codes "gap") (codes "0")
 
+abbrev pub default_grunts_row : Row
+default_grunts_row = filled (codes "grunts") (codes "4")
+
+abbrev pub default_lose_row : Row
+default_lose_row = filled (codes "lose") (codes "0")
+
+abbrev pub default_twice_row : Row
+default_twice_row = filled (codes "twice") (codes "false")
+
+abbrev pub default_late_row : Row
+default_late_row = filled (codes "late") (codes "false")
+
+-- the rows of the options that have to do with grunts
+abbrev pub default_team_rows : List Row
+default_team_rows = default_grunts_row ∷ default_lose_row ∷ default_twice_row ∷ default_late_row ∷ []
+
 pub met_plain : (c : List Rule) (position : ℕ) (word : Text) (h : Held) → IsPlain word → word_met c [] false idle position word h ≡ (h, value)
 met_plain c position word h plain = rw (not_dashes word plain, not_long word plain, not_short word plain) refl
 
@@ -61,7 +77,7 @@ fault_free name a b c pa pb pc =
     rw (not_dashes a pa, not_long a pa, not_short a pa, not_dashes b pb, not_long b pb, not_short b pb, not_dashes c pc, not_long c pc, not_short c pc) refl
 
 rows_are : (name a b c : Text) → IsPlain a → IsPlain b → IsPlain c
-    → rows_of_words (name ∷ codes "solve" ∷ a ∷ b ∷ c ∷ []) ≡ given (codes "instance") a ∷ given (codes "proof") b ∷ given (codes "restart") c ∷ default_budget_row ∷ default_seed_row ∷ default_resume_row ∷ default_gap_row ∷ []
+    → rows_of_words (name ∷ codes "solve" ∷ a ∷ b ∷ c ∷ []) ≡ given (codes "instance") a ∷ given (codes "proof") b ∷ given (codes "restart") c ∷ default_budget_row ∷ default_seed_row ∷ default_resume_row ∷ default_gap_row ∷ default_team_rows
 unfolding clap_on_literals
 rows_are name a b c pa pb pc =
     rw (not_dashes a pa, not_long a pa, not_short a pa, not_dashes b pb, not_long b pb, not_short b pb, not_dashes c pc, not_long c pc, not_short c pc) refl
@@ -81,6 +97,10 @@ paths_taken name a b c pa pb pc =
       seed_is = rw rows refl;
       resume_is = rw rows refl;
       gap_is = rw rows refl;
+      grunts_is = rw rows refl;
+      lose_is = rw rows refl;
+      twice_is = rw rows refl;
+      late_is = rw rows refl;
     }
 
 -- a number does not begin with a hyphen
@@ -99,7 +119,7 @@ budget_fault_free name a b c d pa pb pc pd is =
     (subst (λ (b : Bool). or_else (or_else (or_else (cond b [] (kind.ValueValidation ∷ [])) []) []) [] ≡ []) (sym is) refl)
 
 budget_rows_are : (name a b c d : Text) → IsPlain a → IsPlain b → IsPlain c → IsPlain d
-    → rows_of_words (name ∷ codes "solve" ∷ a ∷ b ∷ c ∷ codes "--budget" ∷ d ∷ []) ≡ given (codes "instance") a ∷ given (codes "proof") b ∷ given (codes "restart") c ∷ given (codes "budget") d ∷ default_seed_row ∷ default_resume_row ∷ default_gap_row ∷ []
+    → rows_of_words (name ∷ codes "solve" ∷ a ∷ b ∷ c ∷ codes "--budget" ∷ d ∷ []) ≡ given (codes "instance") a ∷ given (codes "proof") b ∷ given (codes "restart") c ∷ given (codes "budget") d ∷ default_seed_row ∷ default_resume_row ∷ default_gap_row ∷ default_team_rows
 unfolding clap_on_literals
 budget_rows_are name a b c d pa pb pc pd =
     rw (not_dashes a pa, not_long a pa, not_short a pa, not_dashes b pb, not_long b pb, not_short b pb, not_dashes c pc, not_long c pc, not_short c pc, not_dashes d pd, not_long d pd, not_short d pd) refl
@@ -121,6 +141,10 @@ budgets_taken name a b c d pa pb pc fits =
       seed_is = rw rows refl;
       resume_is = rw rows refl;
       gap_is = rw rows refl;
+      grunts_is = rw rows refl;
+      lose_is = rw rows refl;
+      twice_is = rw rows refl;
+      late_is = rw rows refl;
     }
 
 -- `--seed S`
@@ -132,7 +156,7 @@ seed_fault_free name a b c d pa pb pc pd is =
     (subst (λ (b : Bool). or_else (or_else (or_else (cond b [] (kind.ValueValidation ∷ [])) []) []) [] ≡ []) (sym is) refl)
 
 seed_rows_are : (name a b c d : Text) → IsPlain a → IsPlain b → IsPlain c → IsPlain d
-    → rows_of_words (name ∷ codes "solve" ∷ a ∷ b ∷ c ∷ codes "--seed" ∷ d ∷ []) ≡ given (codes "instance") a ∷ given (codes "proof") b ∷ given (codes "restart") c ∷ given (codes "seed") d ∷ default_budget_row ∷ default_resume_row ∷ default_gap_row ∷ []
+    → rows_of_words (name ∷ codes "solve" ∷ a ∷ b ∷ c ∷ codes "--seed" ∷ d ∷ []) ≡ given (codes "instance") a ∷ given (codes "proof") b ∷ given (codes "restart") c ∷ given (codes "seed") d ∷ default_budget_row ∷ default_resume_row ∷ default_gap_row ∷ default_team_rows
 unfolding clap_on_literals
 seed_rows_are name a b c d pa pb pc pd =
     rw (not_dashes a pa, not_long a pa, not_short a pa, not_dashes b pb, not_long b pb, not_short b pb, not_dashes c pc, not_long c pc, not_short c pc, not_dashes d pd, not_long d pd, not_short d pd) refl
@@ -154,6 +178,10 @@ seeds_taken name a b c d pa pb pc fits =
       seed_is = rw rows refl;
       resume_is = rw rows refl;
       gap_is = rw rows refl;
+      grunts_is = rw rows refl;
+      lose_is = rw rows refl;
+      twice_is = rw rows refl;
+      late_is = rw rows refl;
     }
 
 -- ---- `tour`

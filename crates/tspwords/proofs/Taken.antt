@@ -21,7 +21,7 @@ use Rattle.clap.specs.declared.builder.value_parser.Reading.{Reading}
 use Rattle.clap.specs.declared.builder.value_parser.ValueParser.TheVariants as parser
 use Rattle.clap.specs.declared.parser.matches.ValueSource.{ValueSource}
 use Rattle.clap.specs.declared.parser.matches.ValueSource.TheVariants.{DefaultValue}
-use Rattle.tspwords.specs.Program.{program, verifier, IsTaken, IsVerifierCall, command_word, rows_of_words, word_in, word_for, budget_of, seed_of, gap_of, is_on, most_budget, least_cities, most_cities, most_seed, most_gap, default_seed, default_gap, solve_shape, verify_shape, tour_shape, bench_shape}
+use Rattle.tspwords.specs.Program.{program, verifier, IsTaken, IsVerifierCall, command_word, rows_of_words, word_in, word_for, budget_of, seed_of, gap_of, is_on, most_budget, least_cities, most_cities, most_seed, most_gap, least_grunts, most_grunts, most_lose, most_steps, solve_shape, verify_shape, tour_shape, bench_shape, replay_shape, bound_shape, checkbound_shape}
 use Rattle.tspwords.specs.Laws.{TakenWordsAreGiven, VerifierWordsAreGiven}
 use Rattle.tspwords.specs.Found.{IsSolveOf, IsVerifyOf, IsTourOf, IsBenchOf, budget_in, cities_in, seed_in, gap_in}
 use Rattle.tspwords.specs.Says.{SaysSolve, SaysVerify, SaysTour, SaysBench, SaysPaths}
@@ -48,7 +48,19 @@ tour_built = built_leaf (inherited (built program).top tour_shape)
 abbrev pub bench_built : Shape
 bench_built = built_leaf (inherited (built program).top bench_shape)
 
-subs_are : (built program).subs ≡ solve_built ∷ verify_built ∷ tour_built ∷ bench_built ∷ []
+-- `replay` as the parser has it
+abbrev pub replay_built : Shape
+replay_built = built_leaf (inherited (built program).top replay_shape)
+
+-- `bound` as the parser has it
+abbrev pub bound_built : Shape
+bound_built = built_leaf (inherited (built program).top bound_shape)
+
+-- `checkbound` as the parser has it
+abbrev pub checkbound_built : Shape
+checkbound_built = built_leaf (inherited (built program).top checkbound_shape)
+
+subs_are : (built program).subs ≡ solve_built ∷ verify_built ∷ tour_built ∷ bench_built ∷ replay_built ∷ bound_built ∷ checkbound_built ∷ []
 subs_are = refl
 
 -- the verifier as the parser has it
@@ -56,7 +68,7 @@ abbrev pub verifier_built : Shape
 verifier_built = (built verifier).top
 
 solve_plain : ArePlain solve_built.rules
-solve_plain = (record { own = refl; kind = inl (record { set = refl; least = refl; most = refl }) }, (record { own = refl; kind = inl (record { set = refl; least = refl; most = refl }) }, (record { own = refl; kind = inl (record { set = refl; least = refl; most = refl }) }, (record { own = refl; kind = inl (record { set = refl; least = refl; most = refl }) }, (record { own = refl; kind = inl (record { set = refl; least = refl; most = refl }) }, (record { own = refl; kind = inr (inr (record { set = refl; least = refl; most = refl; some = omega arith })) }, (record { own = refl; kind = inl (record { set = refl; least = refl; most = refl }) }, (record { own = refl; kind = inr (inl refl) }, tt))))))))
+solve_plain = (record { own = refl; kind = inl (record { set = refl; least = refl; most = refl }) }, (record { own = refl; kind = inl (record { set = refl; least = refl; most = refl }) }, (record { own = refl; kind = inl (record { set = refl; least = refl; most = refl }) }, (record { own = refl; kind = inl (record { set = refl; least = refl; most = refl }) }, (record { own = refl; kind = inl (record { set = refl; least = refl; most = refl }) }, (record { own = refl; kind = inr (inr (record { set = refl; least = refl; most = refl; some = omega arith })) }, (record { own = refl; kind = inl (record { set = refl; least = refl; most = refl }) }, (record { own = refl; kind = inl (record { set = refl; least = refl; most = refl }) }, (record { own = refl; kind = inl (record { set = refl; least = refl; most = refl }) }, (record { own = refl; kind = inr (inr (record { set = refl; least = refl; most = refl; some = omega arith })) }, (record { own = refl; kind = inr (inr (record { set = refl; least = refl; most = refl; some = omega arith })) }, (record { own = refl; kind = inr (inl refl) }, tt))))))))))))
 
 verify_plain : ArePlain verify_built.rules
 verify_plain = (record { own = refl; kind = inl (record { set = refl; least = refl; most = refl }) }, (record { own = refl; kind = inl (record { set = refl; least = refl; most = refl }) }, (record { own = refl; kind = inr (inl refl) }, tt)))
@@ -66,6 +78,15 @@ tour_plain = (record { own = refl; kind = inl (record { set = refl; least = refl
 
 bench_plain : ArePlain bench_built.rules
 bench_plain = (record { own = refl; kind = inl (record { set = refl; least = refl; most = refl }) }, (record { own = refl; kind = inl (record { set = refl; least = refl; most = refl }) }, (record { own = refl; kind = inl (record { set = refl; least = refl; most = refl }) }, (record { own = refl; kind = inl (record { set = refl; least = refl; most = refl }) }, (record { own = refl; kind = inr (inl refl) }, tt)))))
+
+replay_plain : ArePlain replay_built.rules
+replay_plain = (record { own = refl; kind = inl (record { set = refl; least = refl; most = refl }) }, (record { own = refl; kind = inl (record { set = refl; least = refl; most = refl }) }, (record { own = refl; kind = inl (record { set = refl; least = refl; most = refl }) }, (record { own = refl; kind = inl (record { set = refl; least = refl; most = refl }) }, (record { own = refl; kind = inr (inl refl) }, tt)))))
+
+bound_plain : ArePlain bound_built.rules
+bound_plain = (record { own = refl; kind = inl (record { set = refl; least = refl; most = refl }) }, (record { own = refl; kind = inl (record { set = refl; least = refl; most = refl }) }, (record { own = refl; kind = inl (record { set = refl; least = refl; most = refl }) }, (record { own = refl; kind = inr (inl refl) }, tt))))
+
+checkbound_plain : ArePlain checkbound_built.rules
+checkbound_plain = (record { own = refl; kind = inl (record { set = refl; least = refl; most = refl }) }, (record { own = refl; kind = inl (record { set = refl; least = refl; most = refl }) }, (record { own = refl; kind = inr (inl refl) }, tt)))
 
 verifier_plain : ArePlain verifier_built.rules
 verifier_plain = (record { own = refl; kind = inl (record { set = refl; least = refl; most = refl }) }, (record { own = refl; kind = inl (record { set = refl; least = refl; most = refl }) }, (record { own = refl; kind = inr (inl refl) }, tt)))
@@ -198,6 +219,8 @@ pub record IsWhole (rows : List Row) : Type 0 where
   pub budget : is_unsigned_in 0 most_budget (word_in (codes "budget") rows) ≡ true
   pub seed : is_unsigned_in 0 most_seed (word_in (codes "seed") rows) ≡ true
   pub gap : is_unsigned_in 0 most_gap (word_in (codes "gap") rows) ≡ true
+  pub grunts : is_unsigned_in least_grunts most_grunts (word_in (codes "grunts") rows) ≡ true
+  pub lose : is_unsigned_in 0 most_lose (word_in (codes "lose") rows) ≡ true
 
 word_is : (id : Text) (rows : List Row) (v : Text) → first_of id rows ≡ Some v → first_of id rows ≡ Some (word_in id rows)
 word_is id rows v e = e ∙ ap (λ o. Some (unwrap_or o [])) (sym e)
@@ -251,6 +274,12 @@ solve_seed = record { rule = slice_index_or solve_built.rules 4 help_rule; own =
 solve_gap : TakesNumber solve_built (codes "gap") 0 most_gap
 solve_gap = record { rule = slice_index_or solve_built.rules 6 help_rule; own = refl; is = refl; reads = refl; default = codes "0"; fills = refl }
 
+solve_grunts : TakesNumber solve_built (codes "grunts") least_grunts most_grunts
+solve_grunts = record { rule = slice_index_or solve_built.rules 7 help_rule; own = refl; is = refl; reads = refl; default = codes "4"; fills = refl }
+
+solve_lose : TakesNumber solve_built (codes "lose") 0 most_lose
+solve_lose = record { rule = slice_index_or solve_built.rules 8 help_rule; own = refl; is = refl; reads = refl; default = codes "0"; fills = refl }
+
 tour_seed : TakesNumber tour_built (codes "seed") 0 most_seed
 tour_seed = record { rule = slice_index_or tour_built.rules 1 help_rule; own = refl; is = refl; reads = refl; default = codes "1"; fills = refl }
 
@@ -264,6 +293,8 @@ solve_whole words found =
       budget = number_whole solve_built words (codes "budget") 0 most_budget solve_budget found;
       seed = number_whole solve_built words (codes "seed") 0 most_seed solve_seed found;
       gap = number_whole solve_built words (codes "gap") 0 most_gap solve_gap found;
+      grunts = number_whole solve_built words (codes "grunts") least_grunts most_grunts solve_grunts found;
+      lose = number_whole solve_built words (codes "lose") 0 most_lose solve_lose found;
     }
 
 -- ---- the words of `tour`
@@ -338,6 +369,67 @@ verifier_whole words found =
       proof = path_whole verifier_built words (codes "proof") (slice_index_or verifier_built.rules 1 help_rule) refl found given.1;
     }
 
+-- ---- the words of `replay`
+
+replay_budget : TakesNumber replay_built (codes "budget") 0 most_budget
+replay_budget = record { rule = slice_index_or replay_built.rules 2 help_rule; own = refl; is = refl; reads = refl; default = codes "65536"; fills = refl }
+
+replay_grunts : TakesNumber replay_built (codes "grunts") least_grunts most_grunts
+replay_grunts = record { rule = slice_index_or replay_built.rules 3 help_rule; own = refl; is = refl; reads = refl; default = codes "4"; fills = refl }
+
+-- what is found for `replay`
+pub record IsWholeReplay (rows : List Row) : Type 0 where
+  pub instance : first_of (codes "instance") rows ≡ Some (word_in (codes "instance") rows)
+  pub tape : first_of (codes "tape") rows ≡ Some (word_in (codes "tape") rows)
+  pub budget : is_unsigned_in 0 most_budget (word_in (codes "budget") rows) ≡ true
+  pub grunts : is_unsigned_in least_grunts most_grunts (word_in (codes "grunts") rows) ≡ true
+
+replay_whole : (words : List Text) → IsFound replay_built words → IsWholeReplay (rows_after replay_built.rules [] words)
+replay_whole words found =
+    let rows = rows_after replay_built.rules [] words in
+    let given = two_given (is_given (codes "instance") rows) (is_given (codes "tape") rows) found.checked in record {
+      instance = path_whole replay_built words (codes "instance") (slice_index_or replay_built.rules 0 help_rule) refl found given.0;
+      tape = path_whole replay_built words (codes "tape") (slice_index_or replay_built.rules 1 help_rule) refl found given.1;
+      budget = number_whole replay_built words (codes "budget") 0 most_budget replay_budget found;
+      grunts = number_whole replay_built words (codes "grunts") least_grunts most_grunts replay_grunts found;
+    }
+
+-- ---- the words of `bound` and `checkbound`
+
+bound_steps : TakesNumber bound_built (codes "steps") 0 most_steps
+bound_steps = record { rule = slice_index_or bound_built.rules 2 help_rule; own = refl; is = refl; reads = refl; default = codes "100"; fills = refl }
+
+-- what is found for an instance and a certificate
+pub record HasCert (rows : List Row) : Type 0 where
+  pub instance : first_of (codes "instance") rows ≡ Some (word_in (codes "instance") rows)
+  pub cert : first_of (codes "cert") rows ≡ Some (word_in (codes "cert") rows)
+
+-- what is found for `bound`
+pub record IsWholeBound (rows : List Row) : Type 0 where
+  pub paths : HasCert rows
+  pub steps : is_unsigned_in 0 most_steps (word_in (codes "steps") rows) ≡ true
+
+bound_whole : (words : List Text) → IsFound bound_built words → IsWholeBound (rows_after bound_built.rules [] words)
+bound_whole words found =
+    let rows = rows_after bound_built.rules [] words in
+    let given = two_given (is_given (codes "instance") rows) (is_given (codes "cert") rows) found.checked in record {
+      paths = record {
+        instance = path_whole bound_built words (codes "instance") (slice_index_or bound_built.rules 0 help_rule) refl found given.0;
+        cert = path_whole bound_built words (codes "cert") (slice_index_or bound_built.rules 1 help_rule) refl found given.1;
+      };
+      steps = number_whole bound_built words (codes "steps") 0 most_steps bound_steps found;
+    }
+
+checkbound_whole : (words : List Text) → IsFound checkbound_built words → HasCert (rows_after checkbound_built.rules [] words)
+checkbound_whole words found =
+    let rows = rows_after checkbound_built.rules [] words in
+    let given = two_given (is_given (codes "instance") rows) (is_given (codes "cert") rows) found.checked in record {
+      instance = path_whole checkbound_built words (codes "instance") (slice_index_or checkbound_built.rules 0 help_rule) refl found given.0;
+      cert = path_whole checkbound_built words (codes "cert") (slice_index_or checkbound_built.rules 1 help_rule) refl found given.1;
+    }
+
+-- ---- the verifier alone
+
 -- the verifier has no command, wherever its words stop
 verifier_level : (given : List Text) (stop : Option (Text × List Text)) → level_fault verifier_built [] nothing_held given (is_some (entered (built verifier) stop)) (entered_fault (built verifier) stop) ≡ []
     → level_fault verifier_built [] nothing_held given false [] ≡ []
@@ -355,24 +447,33 @@ verifier_given words taken = let whole = verifier_taken words taken in record { 
 -- ---- the program
 
 -- the words name this command, and its arguments are found
-record IsWholeOf (command : Text) (Whole : List Row → Type 0) (o : Option (Text × List Row)) : Type 0 where
-  named : option_map_or (λ p. p.0) o [] ≡ command
-  whole : Whole (option_map_or (λ p. p.1) o [])
+pub record IsWholeOf (command : Text) (Whole : List Row → Type 0) (o : Option (Text × List Row)) : Type 0 where
+  pub named : option_map_or (λ p. p.0) o [] ≡ command
+  pub whole : Whole (option_map_or (λ p. p.1) o [])
 
-abbrev IsSolveFound : Option (Text × List Row) → Type 0
+abbrev pub IsSolveFound : Option (Text × List Row) → Type 0
 IsSolveFound o = IsWholeOf (codes "solve") IsWhole o
 
-abbrev IsVerifyFound : Option (Text × List Row) → Type 0
+abbrev pub IsVerifyFound : Option (Text × List Row) → Type 0
 IsVerifyFound o = IsWholeOf (codes "verify") HasPaths o
 
-abbrev IsTourFound : Option (Text × List Row) → Type 0
+abbrev pub IsTourFound : Option (Text × List Row) → Type 0
 IsTourFound o = IsWholeOf (codes "tour") IsWholeTour o
 
-abbrev IsBenchFound : Option (Text × List Row) → Type 0
+abbrev pub IsBenchFound : Option (Text × List Row) → Type 0
 IsBenchFound o = IsWholeOf (codes "bench") IsWholeBench o
 
-abbrev IsWholeCall : Option (Text × List Row) → Type 0
-IsWholeCall o = IsSolveFound o ⊎ (IsVerifyFound o ⊎ (IsTourFound o ⊎ IsBenchFound o))
+abbrev pub IsReplayFound : Option (Text × List Row) → Type 0
+IsReplayFound o = IsWholeOf (codes "replay") IsWholeReplay o
+
+abbrev pub IsBoundFound : Option (Text × List Row) → Type 0
+IsBoundFound o = IsWholeOf (codes "bound") IsWholeBound o
+
+abbrev pub IsCheckboundFound : Option (Text × List Row) → Type 0
+IsCheckboundFound o = IsWholeOf (codes "checkbound") HasCert o
+
+abbrev pub IsWholeCall : Option (Text × List Row) → Type 0
+IsWholeCall o = IsSolveFound o ⊎ (IsVerifyFound o ⊎ (IsTourFound o ⊎ (IsBenchFound o ⊎ (IsReplayFound o ⊎ (IsBoundFound o ⊎ IsCheckboundFound o)))))
 
 four_free : (w b s d c : Kinds) → or_else w (or_else b (or_else s (or_else d c))) ≡ [] → (b ≡ []) × (c ≡ [])
 four_free [] [] [] [] c e = (refl, e)
@@ -387,21 +488,26 @@ no_command rows e = cc
 entered_whole : (rows : List Row) (stop : Option (Text × List Text)) → entered_fault (built program) stop ≡ [] → check_fault (built program).top rows (is_some (entered (built program) stop)) ≡ []
     → IsWholeCall (entered (built program) stop)
 entered_whole rows None below checks = absurd (no_command rows checks)
-entered_whole rows (Some p) below checks = go (answers_to p.0 (label_of solve_built)) (answers_to p.0 (label_of verify_built)) (answers_to p.0 (label_of tour_built)) (answers_to p.0 (label_of bench_built)) below checks
+entered_whole rows (Some p) below checks =
+    go (answers_to p.0 (label_of solve_built)) (answers_to p.0 (label_of verify_built)) (answers_to p.0 (label_of tour_built)) (answers_to p.0 (label_of bench_built))
+    (answers_to p.0 (label_of replay_built)) (answers_to p.0 (label_of bound_built)) (answers_to p.0 (label_of checkbound_built)) below checks
   where
-    found : (s v t b : Bool) → Option Shape
-    found s v t b = cond s (Some solve_built) (cond v (Some verify_built) (cond t (Some tour_built) (cond b (Some bench_built) None)))
+    found : (s v t b r o c : Bool) → Option Shape
+    found s v t b r o c = cond s (Some solve_built) (cond v (Some verify_built) (cond t (Some tour_built) (cond b (Some bench_built) (cond r (Some replay_built) (cond o (Some bound_built) (cond c (Some checkbound_built) None))))))
 
-    go : (s v t b : Bool) → option_map_or (λ s. level_fault s [] nothing_held p.1 false []) (found s v t b) [] ≡ []
-        → check_fault (built program).top rows (is_some (option_map (λ s. rows_at s p.1) (found s v t b))) ≡ []
-        → IsWholeCall (option_map (λ s. rows_at s p.1) (found s v t b))
-    go true v t b below checks = inl (record { named = refl; whole = solve_whole p.1 (level_found solve_built p.1 solve_plain below) })
-    go false true t b below checks = inr (inl (record { named = refl; whole = verify_whole p.1 (level_found verify_built p.1 verify_plain below) }))
-    go false false true b below checks = inr (inr (inl (record { named = refl; whole = tour_whole p.1 (level_found tour_built p.1 tour_plain below) })))
-    go false false false true below checks = inr (inr (inr (record { named = refl; whole = bench_whole p.1 (level_found bench_built p.1 bench_plain below) })))
-    go false false false false below checks = absurd (no_command rows checks)
+    go : (s v t b r o c : Bool) → option_map_or (λ s. level_fault s [] nothing_held p.1 false []) (found s v t b r o c) [] ≡ []
+        → check_fault (built program).top rows (is_some (option_map (λ s. rows_at s p.1) (found s v t b r o c))) ≡ []
+        → IsWholeCall (option_map (λ s. rows_at s p.1) (found s v t b r o c))
+    go true v t b r o c below checks = inl (record { named = refl; whole = solve_whole p.1 (level_found solve_built p.1 solve_plain below) })
+    go false true t b r o c below checks = inr (inl (record { named = refl; whole = verify_whole p.1 (level_found verify_built p.1 verify_plain below) }))
+    go false false true b r o c below checks = inr (inr (inl (record { named = refl; whole = tour_whole p.1 (level_found tour_built p.1 tour_plain below) })))
+    go false false false true r o c below checks = inr (inr (inr (inl (record { named = refl; whole = bench_whole p.1 (level_found bench_built p.1 bench_plain below) }))))
+    go false false false false true o c below checks = inr (inr (inr (inr (inl (record { named = refl; whole = replay_whole p.1 (level_found replay_built p.1 replay_plain below) })))))
+    go false false false false false true c below checks = inr (inr (inr (inr (inr (inl (record { named = refl; whole = bound_whole p.1 (level_found bound_built p.1 bound_plain below) }))))))
+    go false false false false false false true below checks = inr (inr (inr (inr (inr (inr (record { named = refl; whole = checkbound_whole p.1 (level_found checkbound_built p.1 checkbound_plain below) }))))))
+    go false false false false false false false below checks = absurd (no_command rows checks)
 
-taken_whole : (words : List Text) → IsTaken words → IsWholeCall (subcommand_of program words)
+pub taken_whole : (words : List Text) → IsTaken words → IsWholeCall (subcommand_of program words)
 taken_whole words taken =
     let given = argument_words program words in
     let all = walk (built program).top.rules (names_of (built program)) nothing_held given in
@@ -418,6 +524,8 @@ taken_given words taken = elim (taken_whole words taken) [
     budget = unsigned_in 0 most_budget (word_for (codes "budget") words) solve.whole.budget;
     seed = unsigned_in 0 most_seed (word_for (codes "seed") words) solve.whole.seed;
     gap = unsigned_in 0 most_gap (word_for (codes "gap") words) solve.whole.gap;
+    grunts = unsigned_in least_grunts most_grunts (word_for (codes "grunts") words) solve.whole.grunts;
+    lose = unsigned_in 0 most_lose (word_for (codes "lose") words) solve.whole.lose;
   })
   | inr (inl verify) ↦ inr (inl (record {
     named = record { taken = taken; named = verify.named };
@@ -429,164 +537,29 @@ taken_given words taken = elim (taken_whole words taken) [
     instance = tour.whole.instance;
     seed = unsigned_in 0 most_seed (word_for (codes "seed") words) tour.whole.seed;
   })))
-  | inr (inr (inr bench)) ↦ inr (inr (inr (record {
+  | inr (inr (inr (inl bench))) ↦ inr (inr (inr (inl (record {
     named = record { taken = taken; named = bench.named };
     seed = unsigned_in 0 most_seed (word_for (codes "seed") words) bench.whole.seed;
     cities = unsigned_in least_cities most_cities (word_for (codes "cities") words) bench.whole.cities;
     budget = unsigned_in 0 most_budget (word_for (codes "budget") words) bench.whole.budget;
     out = bench.whole.out;
-  })))
+  }))))
+  | inr (inr (inr (inr (inl replay)))) ↦ inr (inr (inr (inr (inl (record {
+    named = record { taken = taken; named = replay.named };
+    instance = replay.whole.instance;
+    tape = replay.whole.tape;
+    budget = unsigned_in 0 most_budget (word_for (codes "budget") words) replay.whole.budget;
+    grunts = unsigned_in least_grunts most_grunts (word_for (codes "grunts") words) replay.whole.grunts;
+  })))))
+  | inr (inr (inr (inr (inr (inl bound))))) ↦ inr (inr (inr (inr (inr (inl (record {
+    named = record { taken = taken; named = bound.named };
+    instance = bound.whole.paths.instance;
+    cert = bound.whole.paths.cert;
+    steps = unsigned_in 0 most_steps (word_for (codes "steps") words) bound.whole.steps;
+  }))))))
+  | inr (inr (inr (inr (inr (inr check))))) ↦ inr (inr (inr (inr (inr (inr (record {
+    named = record { taken = taken; named = check.named };
+    instance = check.whole.instance;
+    cert = check.whole.cert;
+  }))))))
 ]
-
--- no command has another one's name
-apart : (name a b : Text) → name ≡ a → name ≡ b → bytes_eq a b ≡ false → ⊥
-apart name a b is also other = let e = (bytes_eq-Decides a b).1 (sym is ∙ also) in cc
-
--- the words name the command that was found
-whole_solve : (words : List Text) → IsTaken words → command_word words ≡ codes "solve" → IsWhole (rows_of_words words)
-whole_solve words taken is = elim (taken_whole words taken) [
-  | inl solve ↦ solve.whole
-  | inr (inl verify) ↦ absurd (apart (command_word words) (codes "solve") (codes "verify") is verify.named refl)
-  | inr (inr (inl tour)) ↦ absurd (apart (command_word words) (codes "solve") (codes "tour") is tour.named refl)
-  | inr (inr (inr bench)) ↦ absurd (apart (command_word words) (codes "solve") (codes "bench") is bench.named refl)
-]
-
-whole_tour : (words : List Text) → IsTaken words → command_word words ≡ codes "tour" → IsWholeTour (rows_of_words words)
-whole_tour words taken is = elim (taken_whole words taken) [
-  | inl solve ↦ absurd (apart (command_word words) (codes "tour") (codes "solve") is solve.named refl)
-  | inr (inl verify) ↦ absurd (apart (command_word words) (codes "tour") (codes "verify") is verify.named refl)
-  | inr (inr (inl tour)) ↦ tour.whole
-  | inr (inr (inr bench)) ↦ absurd (apart (command_word words) (codes "tour") (codes "bench") is bench.named refl)
-]
-
-whole_bench : (words : List Text) → IsTaken words → command_word words ≡ codes "bench" → IsWholeBench (rows_of_words words)
-whole_bench words taken is = elim (taken_whole words taken) [
-  | inl solve ↦ absurd (apart (command_word words) (codes "bench") (codes "solve") is solve.named refl)
-  | inr (inl verify) ↦ absurd (apart (command_word words) (codes "bench") (codes "verify") is verify.named refl)
-  | inr (inr (inl tour)) ↦ absurd (apart (command_word words) (codes "bench") (codes "tour") is tour.named refl)
-  | inr (inr (inr bench)) ↦ bench.whole
-]
-
-pub verify_named : (words : List Text) → IsTaken words → (command_word words ≡ codes "solve" → ⊥) → (command_word words ≡ codes "tour" → ⊥) → (command_word words ≡ codes "bench" → ⊥)
-    → command_word words ≡ codes "verify"
-verify_named words taken no_solve no_tour no_bench = elim (taken_whole words taken) [
-  | inl solve ↦ absurd (no_solve solve.named)
-  | inr (inl verify) ↦ verify.named
-  | inr (inr (inl tour)) ↦ absurd (no_tour tour.named)
-  | inr (inr (inr bench)) ↦ absurd (no_bench bench.named)
-]
-
--- the number of a word that a range took, found in the rows
-seed_says : (words : List Text) (rows : List Row) (seed : ℕ) → is_unsigned_in 0 most_seed (word_for (codes "seed") words) ≡ true → rows ≡ rows_of_words words
-    → seed ≡ seed_in (word_in (codes "seed") rows) → seed ≡ seed_of words
-seed_says words rows seed passes same found =
-    found ∙ ap (λ r. seed_in (word_in (codes "seed") r)) same ∙ number_taken 0 most_seed default_seed (word_for (codes "seed") words) passes
-
-budget_says : (words : List Text) (rows : List Row) (budget : ℕ) → is_unsigned_in 0 most_budget (word_for (codes "budget") words) ≡ true → rows ≡ rows_of_words words
-    → budget ≡ budget_in (word_in (codes "budget") rows) → budget ≡ budget_of words
-budget_says words rows budget passes same found =
-    found ∙ ap (λ r. budget_in (word_in (codes "budget") r)) same ∙ number_taken 0 most_budget most_budget (word_for (codes "budget") words) passes
-
-gap_says : (words : List Text) (rows : List Row) (gap : ℕ) → is_unsigned_in 0 most_gap (word_for (codes "gap") words) ≡ true → rows ≡ rows_of_words words
-    → gap ≡ gap_in (word_in (codes "gap") rows) → gap ≡ gap_of words
-gap_says words rows gap passes same found =
-    found ∙ ap (λ r. gap_in (word_in (codes "gap") r)) same ∙ number_taken 0 most_gap default_gap (word_for (codes "gap") words) passes
-
--- a call that was found, where the words are taken
-pub says_solve : (words : List Text) (rows : List Row) (s : Solve) → IsTaken words → command_word words ≡ codes "solve" → rows ≡ rows_of_words words → IsSolveOf rows s → SaysSolve words s
-says_solve words rows s taken is same found =
-    let whole = whole_solve words taken is in record {
-      named = is;
-      instance = found.instance ∙ ap (word_in (codes "instance")) same;
-      proof = found.proof ∙ ap (word_in (codes "proof")) same;
-      restart = found.restart ∙ ap (word_in (codes "restart")) same;
-      budget = budget_says words rows s.budget whole.budget same found.budget;
-      few = found.few;
-      seed = seed_says words rows s.seed whole.seed same found.seed;
-      resume = found.resume ∙ ap (λ r. is_on (word_in (codes "resume") r)) same;
-      gap = gap_says words rows s.gap whole.gap same found.gap;
-      most = found.most;
-    }
-
-pub says_verify : (words : List Text) (rows : List Row) (v : VerifyWords) → IsTaken words → (command_word words ≡ codes "solve" → ⊥) → (command_word words ≡ codes "tour" → ⊥) → (command_word words ≡ codes "bench" → ⊥) → rows ≡ rows_of_words words
-    → IsVerifyOf rows v → SaysVerify words v
-says_verify words rows v taken no_solve no_tour no_bench same found = record {
-  named = verify_named words taken no_solve no_tour no_bench;
-  instance = found.instance ∙ ap (word_in (codes "instance")) same;
-  proof = found.proof ∙ ap (word_in (codes "proof")) same;
-}
-
-pub says_tour : (words : List Text) (rows : List Row) (t : TourWords) → IsTaken words → command_word words ≡ codes "tour" → rows ≡ rows_of_words words → IsTourOf rows t → SaysTour words t
-says_tour words rows t taken is same found = record {
-  named = is;
-  instance = found.instance ∙ ap (word_in (codes "instance")) same;
-  seed = seed_says words rows t.seed (whole_tour words taken is).seed same found.seed;
-}
-
-pub says_bench : (words : List Text) (rows : List Row) (b : BenchWords) → IsTaken words → command_word words ≡ codes "bench" → rows ≡ rows_of_words words → IsBenchOf rows b → SaysBench words b
-says_bench words rows b taken is same found =
-    let whole = whole_bench words taken is in record {
-      named = is;
-      seed = seed_says words rows b.seed whole.seed same found.seed;
-      cities = found.cities ∙ ap (λ r. cities_in (word_in (codes "cities") r)) same ∙ number_taken least_cities most_cities least_cities (word_for (codes "cities") words) whole.cities;
-      enough = found.enough;
-      fits = found.fits;
-      budget = budget_says words rows b.budget whole.budget same found.budget;
-      few = found.few;
-      out = found.out ∙ ap (word_in (codes "out")) same;
-    }
-
-pub says_paths : (words : List Text) (rows : List Row) (v : VerifyWords) → rows ≡ matches_of verifier words → IsVerifyOf rows v → SaysPaths words v
-says_paths words rows v same found = record {
-  instance = found.instance ∙ ap (word_in (codes "instance")) same;
-  proof = found.proof ∙ ap (word_in (codes "proof")) same;
-}
-
--- the name and the rows of the subcommand that was found
-pub found_name : (name : Text) (o : Option (Text × List Row)) → Some name ≡ option_map (λ p. p.0) o → name ≡ option_map_or (λ p. p.0) o []
-found_name name None e = cc
-found_name name (Some p) e = cc
-
-pub found_rows : (rows : List Row) (o : Option (Text × List Row)) → Some rows ≡ option_map (λ p. p.1) o → rows ≡ option_map_or (λ p. p.1) o []
-found_rows rows None e = cc
-found_rows rows (Some p) e = cc
-
--- ---- what the parser gives
-
-pub both_true : (a b : Bool) → (a && b) ≡ true → a ≡ true
-both_true true b e = refl
-both_true false b e = cc
-
-command_there : (o : Option (Text × List Row)) → IsWholeCall o → is_some o ≡ true
-command_there (Some p) whole = refl
-command_there None whole = elim whole [
-  | inl solve ↦ let e = solve.named in cc
-  | inr (inl verify) ↦ let e = verify.named in cc
-  | inr (inr (inl tour)) ↦ let e = tour.named in cc
-  | inr (inr (inr bench)) ↦ let e = bench.named in cc
-]
-
-rows_there : {A : Type 0} (f : A → Text × List Row) (o : Option A) → is_some (option_map f o) ≡ is_some o
-rows_there f None = refl
-rows_there f (Some a) = refl
-
--- a command was met where the words are taken
-pub has_command : (words : List Text) (m : ArgMatches) → IsTaken words → subcommand_rows_of m ≡ subcommand_of program words → has_subcommand m ≡ true
-has_command words m taken rows =
-    sym (rows_there (λ b. ((out-SubCommand (box_value b)).name.now, rows_of (found_of (out-SubCommand (box_value b)).matches))) (out-ArgMatches m).subcommand)
-    ∙ ap is_some rows ∙ command_there (subcommand_of program words) (taken_whole words taken)
-
-pub commands_there : {E : Type 0} (words : List Text) (a : App) (r : Result ArgMatches E) → a ≡ program → IfOk r (λ m. fault_of a words ≡ [])
-    → IfOk r (λ m. subcommand_rows_of m ≡ subcommand_of a words) → IfOk r (λ m. has_subcommand m ≡ true)
-commands_there words a (Ok m) is free rows = has_command words m (subst (λ (x : App). fault_of x words ≡ []) is free) (subst (λ (x : App). subcommand_rows_of m ≡ subcommand_of x words) is rows)
-commands_there words a (Err e) is free rows = tt
-
-same_names : {A : Type 0} (f : A → Text) (g : A → List Row) (o : Option A) → option_map f o ≡ option_map (λ (p : Text × List Row). p.0) (option_map (λ b. (f b, g b)) o)
-same_names f g None = refl
-same_names f g (Some a) = refl
-
--- the name of the command that was met
-pub name_of_rows : (words : List Text) (m : ArgMatches) → subcommand_rows_of m ≡ subcommand_of program words → subcommand_name_of m ≡ option_map (λ (p : Text × List Row). p.0) (subcommand_of program words)
-name_of_rows words m rows =
-    same_names (λ b. (out-SubCommand (box_value b)).name.now) (λ b. rows_of (found_of (out-SubCommand (box_value b)).matches)) (out-ArgMatches m).subcommand
-    ∙ ap (λ o. option_map (λ (p : Text × List Row). p.0) o) rows

@@ -1,6 +1,6 @@
 -- The command lines of the solver and of the verifier, as the parser of command lines is given them, and what words mean
 -- there.
-use Rattle.std.specs.Prelude.{◌≡◌, ℕ, Bool, List, [], ◌∷◌, Some, codes, unwrap_or, true}
+use Rattle.std.specs.Prelude.{◌≡◌, ℕ, Bool, List, [], ◌∷◌, ◌++◌, Some, codes, unwrap_or, true}
 use Rattle.std.specs.Option.{option_map_or}
 use Rattle.std.specs.Str.{bytes_eq}
 use Rattle.std.specs.Str.Parse.{digits_value, without_leading_plus}
@@ -41,6 +41,30 @@ most_gap = 4398046511104
 abbrev pub default_gap : ℕ
 default_gap = 0
 
+-- the fewest and the most grunts, and how many work where no number is given
+abbrev pub least_grunts : ℕ
+least_grunts = 1
+
+abbrev pub most_grunts : ℕ
+most_grunts = 64
+
+abbrev pub default_grunts : ℕ
+default_grunts = 4
+
+-- the greatest number of `--lose`, and the one that holds where none is given
+abbrev pub most_lose : ℕ
+most_lose = 65536
+
+abbrev pub default_lose : ℕ
+default_lose = 0
+
+-- the most steps of an ascent, and how many are taken where no number is given
+abbrev pub most_steps : ℕ
+most_steps = 10000
+
+abbrev pub default_steps : ℕ
+default_steps = 100
+
 -- `--id NUMBER`, the number from `least` to `most`
 abbrev pub number_rule : Text → ℕ → ℕ → Text → Rule
 number_rule id least most default = record (new_rule id) {
@@ -61,13 +85,37 @@ budget_rule = number_rule (codes "budget") 0 most_budget (codes "65536")
 abbrev pub seed_rule : Rule
 seed_rule = number_rule (codes "seed") 0 most_seed (codes "1")
 
--- `--resume`, a switch
+-- `--id`, a switch
+abbrev pub switch_rule : Text → Rule
+switch_rule id = record (new_rule id) { long = Some id; action = Some SetTrue }
+
+-- `--resume`
 abbrev pub resume_rule : Rule
-resume_rule = record (new_rule (codes "resume")) { long = Some (codes "resume"); action = Some SetTrue }
+resume_rule = switch_rule (codes "resume")
 
 -- `--gap G`, G from 0 to 2 ^ 42
 abbrev pub gap_rule : Rule
 gap_rule = number_rule (codes "gap") 0 most_gap (codes "0")
+
+-- `--grunts K`, K from 1 to 64
+abbrev pub grunts_rule : Rule
+grunts_rule = number_rule (codes "grunts") least_grunts most_grunts (codes "4")
+
+-- `--lose N`, N from 0 to 65536
+abbrev pub lose_rule : Rule
+lose_rule = number_rule (codes "lose") 0 most_lose (codes "0")
+
+-- `--twice`
+abbrev pub twice_rule : Rule
+twice_rule = switch_rule (codes "twice")
+
+-- `--late`
+abbrev pub late_rule : Rule
+late_rule = switch_rule (codes "late")
+
+-- `--steps K`, K from 0 to 10000
+abbrev pub steps_rule : Rule
+steps_rule = number_rule (codes "steps") 0 most_steps (codes "100")
 
 -- `solve INSTANCE PROOF RESTART [--budget N] [--seed S]`, with no more options
 abbrev pub solve_numbers : Shape
@@ -75,10 +123,18 @@ solve_numbers = record (new_shape (codes "solve")) {
   rules = path_rule (codes "instance") ∷ path_rule (codes "proof") ∷ path_rule (codes "restart") ∷ budget_rule ∷ seed_rule ∷ [];
 }
 
--- `solve INSTANCE PROOF RESTART [--budget N] [--seed S] [--resume] [--gap G]`
+-- with these and `[--resume] [--gap G]`
+abbrev pub solve_alone : Shape
+solve_alone = record solve_numbers { rules = solve_numbers.rules ++ resume_rule ∷ gap_rule ∷ [] }
+
+-- with these and `[--grunts K] [--lose N]`
+abbrev pub solve_in_threads : Shape
+solve_in_threads = record solve_alone { rules = solve_alone.rules ++ grunts_rule ∷ lose_rule ∷ [] }
+
+-- `solve INSTANCE PROOF RESTART [--budget N] [--seed S] [--resume] [--gap G] [--grunts K] [--lose N] [--twice] [--late]`
 abbrev pub solve_shape : Shape
 solve_shape = record (new_shape (codes "solve")) {
-  rules = path_rule (codes "instance") ∷ path_rule (codes "proof") ∷ path_rule (codes "restart") ∷ budget_rule ∷ seed_rule ∷ resume_rule ∷ gap_rule ∷ [];
+  rules = path_rule (codes "instance") ∷ path_rule (codes "proof") ∷ path_rule (codes "restart") ∷ budget_rule ∷ seed_rule ∷ resume_rule ∷ gap_rule ∷ grunts_rule ∷ lose_rule ∷ twice_rule ∷ late_rule ∷ [];
 }
 
 -- `verify INSTANCE PROOF`
@@ -97,6 +153,24 @@ bench_shape = record (new_shape (codes "bench")) {
   rules = numeral_rule (codes "seed") 0 most_seed ∷ numeral_rule (codes "cities") least_cities most_cities ∷ numeral_rule (codes "budget") 0 most_budget ∷ path_rule (codes "out") ∷ [];
 }
 
+-- `replay INSTANCE TAPE [--budget N] [--grunts K]`
+abbrev pub replay_shape : Shape
+replay_shape = record (new_shape (codes "replay")) {
+  rules = path_rule (codes "instance") ∷ path_rule (codes "tape") ∷ budget_rule ∷ grunts_rule ∷ [];
+}
+
+-- `bound INSTANCE CERT [--steps K]`
+abbrev pub bound_shape : Shape
+bound_shape = record (new_shape (codes "bound")) {
+  rules = path_rule (codes "instance") ∷ path_rule (codes "cert") ∷ steps_rule ∷ [];
+}
+
+-- `checkbound INSTANCE CERT`
+abbrev pub checkbound_shape : Shape
+checkbound_shape = record (new_shape (codes "checkbound")) {
+  rules = path_rule (codes "instance") ∷ path_rule (codes "cert") ∷ [];
+}
+
 -- the program with the commands that have to do with proofs
 abbrev pub proving : App
 proving = with_subcommand (with_subcommand (record {
@@ -104,9 +178,17 @@ proving = with_subcommand (with_subcommand (record {
   subs = [];
 }) solve_shape) verify_shape
 
+-- with these, and the commands that make a tour or an instance
+abbrev pub making : App
+making = with_subcommand (with_subcommand proving tour_shape) bench_shape
+
+-- with these, and `replay`
+abbrev pub replaying : App
+replaying = with_subcommand making replay_shape
+
 -- the program: one of its commands has to be named
 abbrev pub program : App
-program = with_subcommand (with_subcommand proving tour_shape) bench_shape
+program = with_subcommand (with_subcommand replaying bound_shape) checkbound_shape
 
 -- the words are of a command's form: the parser finds no fault with them, of which a call for help is one
 abbrev pub IsTaken : List Text → Type 0
@@ -133,6 +215,15 @@ IsTourCall words = IsCallOf (codes "tour") words
 abbrev pub IsBenchCall : List Text → Type 0
 IsBenchCall words = IsCallOf (codes "bench") words
 
+abbrev pub IsReplayCall : List Text → Type 0
+IsReplayCall words = IsCallOf (codes "replay") words
+
+abbrev pub IsBoundCall : List Text → Type 0
+IsBoundCall words = IsCallOf (codes "bound") words
+
+abbrev pub IsCheckboundCall : List Text → Type 0
+IsCheckboundCall words = IsCallOf (codes "checkbound") words
+
 -- what the words say of the arguments of the command that they name
 abbrev pub rows_of_words : List Text → List Row
 rows_of_words words = option_map_or (λ p. p.1) (subcommand_of program words) []
@@ -156,6 +247,12 @@ restart_word words = word_for (codes "restart") words
 abbrev pub out_word : List Text → Text
 out_word words = word_for (codes "out") words
 
+abbrev pub tape_word : List Text → Text
+tape_word words = word_for (codes "tape") words
+
+abbrev pub cert_word : List Text → Text
+cert_word words = word_for (codes "cert") words
+
 -- the number that a word of digits says, with or without a `+`
 abbrev pub number_of : Text → ℕ
 number_of word = digits_value 10 (without_leading_plus word)
@@ -178,6 +275,21 @@ resumes words = is_on (word_for (codes "resume") words)
 
 abbrev pub gap_of : List Text → ℕ
 gap_of words = number_of (word_for (codes "gap") words)
+
+abbrev pub grunts_of : List Text → ℕ
+grunts_of words = number_of (word_for (codes "grunts") words)
+
+abbrev pub lose_of : List Text → ℕ
+lose_of words = number_of (word_for (codes "lose") words)
+
+abbrev pub is_twice : List Text → Bool
+is_twice words = is_on (word_for (codes "twice") words)
+
+abbrev pub is_late : List Text → Bool
+is_late words = is_on (word_for (codes "late") words)
+
+abbrev pub steps_of : List Text → ℕ
+steps_of words = number_of (word_for (codes "steps") words)
 
 -- ---- the verifier, a program of its own
 

@@ -14,7 +14,10 @@ mod words;
 
 pub use laws::{plain_words_are_taken, taken_words_are_given};
 pub use reading::{read_command, read_verify_words};
-pub use words::{BenchWords, Command, Solve, TourWords, VerifyWords, WordsError};
+pub use words::{
+    BenchWords, BoundWords, CheckboundWords, Command, ReplayWords, Solve, TourWords, VerifyWords,
+    WordsError,
+};
 
 #[cfg(test)]
 mod tests;

@@ -4,7 +4,7 @@ ghost use Rattle.std.specs.Prelude.{◌≡◌, codes, false, [], IfOk};
 ghost use Rattle.clap.specs.Walk.{rule_of};
 ghost use Rattle.clap.specs.Simple.{app_of, new_app, with_rule, on_top};
 ghost use Rattle.clap.specs.declared.builder.command.Command.TheViews.{out-Command};
-ghost use Rattle.tspwords.specs.Program.{path_rule, number_rule, numeral_rule, budget_rule, seed_rule, resume_rule, gap_rule, least_cities, most_cities, most_seed, solve_numbers, solve_shape, verify_shape, tour_shape, bench_shape, proving, program, verifier};
+ghost use Rattle.tspwords.specs.Program.{path_rule, number_rule, numeral_rule, budget_rule, seed_rule, switch_rule, resume_rule, gap_rule, grunts_rule, lose_rule, twice_rule, late_rule, steps_rule, least_cities, most_cities, most_seed, solve_numbers, solve_alone, solve_in_threads, solve_shape, verify_shape, tour_shape, bench_shape, replay_shape, bound_shape, checkbound_shape, proving, making, replaying, program, verifier};
 
 use clap::builder::ValueParser;
 use clap::{Arg, ArgAction, Command};
@@ -37,6 +37,14 @@ fn numeral<'a>(alloc: Global, id: &'a str, least: u64, most: u64) -> Arg<'a>
     path(alloc, id).value_parser(ValueParser::Unsigned(least, most))
 }
 
+// A switch of this name.
+fn switch<'a>(alloc: Global, id: &'a str) -> Arg<'a>
+    ensures rule { rule_of result ≡ switch_rule id.now }
+    ensures local { result.global ≡ false }
+{
+    Arg::new(alloc, id).long(id).action(ArgAction::SetTrue)
+}
+
 // `--budget N`
 fn budget<'a>(alloc: Global) -> Arg<'a>
     ensures rule { rule_of result ≡ budget_rule }
@@ -58,9 +66,7 @@ fn resume<'a>(alloc: Global) -> Arg<'a>
     ensures rule { rule_of result ≡ resume_rule }
     ensures local { result.global ≡ false }
 {
-    Arg::new(alloc, "resume")
-        .long("resume")
-        .action(ArgAction::SetTrue)
+    switch(alloc, "resume")
 }
 
 // `--gap G`
@@ -69,6 +75,46 @@ fn gap<'a>(alloc: Global) -> Arg<'a>
     ensures local { result.global ≡ false }
 {
     number(alloc, "gap", 0, 4398046511104, "0")
+}
+
+// `--grunts K`
+fn grunts<'a>(alloc: Global) -> Arg<'a>
+    ensures rule { rule_of result ≡ grunts_rule }
+    ensures local { result.global ≡ false }
+{
+    number(alloc, "grunts", 1, 64, "4")
+}
+
+// `--lose N`
+fn lose<'a>(alloc: Global) -> Arg<'a>
+    ensures rule { rule_of result ≡ lose_rule }
+    ensures local { result.global ≡ false }
+{
+    number(alloc, "lose", 0, 65536, "0")
+}
+
+// `--twice`
+fn twice<'a>(alloc: Global) -> Arg<'a>
+    ensures rule { rule_of result ≡ twice_rule }
+    ensures local { result.global ≡ false }
+{
+    switch(alloc, "twice")
+}
+
+// `--late`
+fn late<'a>(alloc: Global) -> Arg<'a>
+    ensures rule { rule_of result ≡ late_rule }
+    ensures local { result.global ≡ false }
+{
+    switch(alloc, "late")
+}
+
+// `--steps K`
+fn steps<'a>(alloc: Global) -> Arg<'a>
+    ensures rule { rule_of result ≡ steps_rule }
+    ensures local { result.global ≡ false }
+{
+    number(alloc, "steps", 0, 10000, "100")
 }
 
 // `solve INSTANCE PROOF`, the front of `solve`.
@@ -98,11 +144,27 @@ fn solve_numbers<'a>(alloc: Global) -> Result<Command<'a>, AllocError>
 }
 
 // `solve INSTANCE PROOF RESTART [--budget N] [--seed S] [--resume] [--gap G]`
+fn solve_alone<'a>(alloc: Global) -> Result<Command<'a>, AllocError>
+    ensures app { IfOk result (λ c. app_of c ≡ record { top = solve_alone; subs = [] }) }
+    ensures local { IfOk result (λ c. (out-Command c).has_globals ≡ false) }
+{
+    solve_numbers(alloc)?.arg(resume(alloc))?.arg(gap(alloc))
+}
+
+// `solve INSTANCE PROOF RESTART [--budget N] [--seed S] [--resume] [--gap G] [--grunts K] [--lose N]`
+fn solve_in_threads<'a>(alloc: Global) -> Result<Command<'a>, AllocError>
+    ensures app { IfOk result (λ c. app_of c ≡ record { top = solve_in_threads; subs = [] }) }
+    ensures local { IfOk result (λ c. (out-Command c).has_globals ≡ false) }
+{
+    solve_alone(alloc)?.arg(grunts(alloc))?.arg(lose(alloc))
+}
+
+// `solve INSTANCE PROOF RESTART [--budget N] [--seed S] [--resume] [--gap G] [--grunts K] [--lose N] [--twice] [--late]`
 fn solve<'a>(alloc: Global) -> Result<Command<'a>, AllocError>
     ensures app { IfOk result (λ c. app_of c ≡ record { top = solve_shape; subs = [] }) }
     ensures local { IfOk result (λ c. (out-Command c).has_globals ≡ false) }
 {
-    solve_numbers(alloc)?.arg(resume(alloc))?.arg(gap(alloc))
+    solve_in_threads(alloc)?.arg(twice(alloc))?.arg(late(alloc))
 }
 
 // `tour INSTANCE [--seed S]`
@@ -145,6 +207,50 @@ fn verify<'a>(alloc: Global) -> Result<Command<'a>, AllocError>
         .arg(path(alloc, "proof"))
 }
 
+// `replay INSTANCE TAPE`, the front of `replay`.
+fn replay_front<'a>(alloc: Global) -> Result<Command<'a>, AllocError>
+    ensures app { IfOk result (λ c. app_of c ≡ with_rule (with_rule (new_app (codes "replay")) (path_rule (codes "instance"))) (path_rule (codes "tape"))) }
+    ensures local { IfOk result (λ c. (out-Command c).has_globals ≡ false) }
+{
+    Command::new(alloc, "replay")
+        .arg(path(alloc, "instance"))?
+        .arg(path(alloc, "tape"))
+}
+
+// `replay INSTANCE TAPE [--budget N] [--grunts K]`
+fn replay<'a>(alloc: Global) -> Result<Command<'a>, AllocError>
+    ensures app { IfOk result (λ c. app_of c ≡ record { top = replay_shape; subs = [] }) }
+    ensures local { IfOk result (λ c. (out-Command c).has_globals ≡ false) }
+{
+    replay_front(alloc)?.arg(budget(alloc))?.arg(grunts(alloc))
+}
+
+// A command on an instance and a certificate.
+fn certificate<'a>(alloc: Global, name: &'a str) -> Result<Command<'a>, AllocError>
+    ensures app { IfOk result (λ c. app_of c ≡ with_rule (with_rule (new_app name.now) (path_rule (codes "instance"))) (path_rule (codes "cert"))) }
+    ensures local { IfOk result (λ c. (out-Command c).has_globals ≡ false) }
+{
+    Command::new(alloc, name)
+        .arg(path(alloc, "instance"))?
+        .arg(path(alloc, "cert"))
+}
+
+// `bound INSTANCE CERT [--steps K]`
+fn bound<'a>(alloc: Global) -> Result<Command<'a>, AllocError>
+    ensures app { IfOk result (λ c. app_of c ≡ record { top = bound_shape; subs = [] }) }
+    ensures local { IfOk result (λ c. (out-Command c).has_globals ≡ false) }
+{
+    certificate(alloc, "bound")?.arg(steps(alloc))
+}
+
+// `checkbound INSTANCE CERT`
+fn checkbound<'a>(alloc: Global) -> Result<Command<'a>, AllocError>
+    ensures app { IfOk result (λ c. app_of c ≡ record { top = checkbound_shape; subs = [] }) }
+    ensures local { IfOk result (λ c. (out-Command c).has_globals ≡ false) }
+{
+    certificate(alloc, "checkbound")
+}
+
 // The program and the commands that have to do with proofs.
 fn proving<'a>(alloc: Global) -> Result<Command<'a>, AllocError>
     ensures app { IfOk result (λ c. app_of c ≡ proving) }
@@ -156,14 +262,32 @@ fn proving<'a>(alloc: Global) -> Result<Command<'a>, AllocError>
     top.subcommand(solve(alloc)?)?.subcommand(verify(alloc)?)
 }
 
-/// The program and its commands.
-pub(crate) fn program<'a>(alloc: Global) -> Result<Command<'a>, AllocError>
-    ensures app { IfOk result (λ c. app_of c ≡ program) }
+// With these, and the commands that make a tour or an instance.
+fn making<'a>(alloc: Global) -> Result<Command<'a>, AllocError>
+    ensures app { IfOk result (λ c. app_of c ≡ making) }
     ensures local { IfOk result (λ c. (out-Command c).has_globals ≡ false) }
 {
     proving(alloc)?
         .subcommand(tour(alloc)?)?
         .subcommand(bench(alloc)?)
+}
+
+// With these, and `replay`.
+fn replaying<'a>(alloc: Global) -> Result<Command<'a>, AllocError>
+    ensures app { IfOk result (λ c. app_of c ≡ replaying) }
+    ensures local { IfOk result (λ c. (out-Command c).has_globals ≡ false) }
+{
+    making(alloc)?.subcommand(replay(alloc)?)
+}
+
+/// The program and its commands.
+pub(crate) fn program<'a>(alloc: Global) -> Result<Command<'a>, AllocError>
+    ensures app { IfOk result (λ c. app_of c ≡ program) }
+    ensures local { IfOk result (λ c. (out-Command c).has_globals ≡ false) }
+{
+    replaying(alloc)?
+        .subcommand(bound(alloc)?)?
+        .subcommand(checkbound(alloc)?)
 }
 
 /// The verifier.

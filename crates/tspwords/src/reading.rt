@@ -6,11 +6,14 @@ ghost use Rattle.clap.specs.Simple.{app_of, matches_of, subcommand_of, subcomman
 ghost use Rattle.clap.specs.Faults.{fault_of, is_simple_and_free};
 ghost use Rattle.clap.specs.declared.builder.command.Command.TheViews.{out-Command};
 ghost use Rattle.tspwords.specs.Program.{program, verifier, IsTaken, IsVerifierCall, is_on, word_in};
-ghost use Rattle.tspwords.specs.Found.{IsSolveOf, IsVerifyOf, IsTourOf, IsBenchOf, number_in, budget_in, cities_in, seed_in, gap_in};
+ghost use Rattle.tspwords.specs.Found.{IsSolveOf, IsVerifyOf, IsTourOf, IsBenchOf, IsReplayOf, IsBoundOf, IsCheckboundOf, number_in, budget_in, cities_in, seed_in, gap_in, grunts_in, lose_in, steps_in};
 ghost use Rattle.tspwords.specs.Says.{Says, SaysPaths};
 
 use crate::program::{program, verifier};
-use crate::words::{BenchWords, Command, Solve, TourWords, VerifyWords, WordsError};
+use crate::words::{
+    BenchWords, BoundWords, CheckboundWords, Command, ReplayWords, Solve, TourWords, VerifyWords,
+    WordsError,
+};
 use clap::ArgMatches;
 use clap::error::ErrorKind;
 use std::alloc::{AllocError, Global};
@@ -33,6 +36,27 @@ const MOST_GAP: u64 = 4398046511104;
 /// The gap where none is given.
 const DEFAULT_GAP: u64 = 0;
 
+/// The fewest grunts.
+const LEAST_GRUNTS: u64 = 1;
+
+/// The most grunts.
+const MOST_GRUNTS: u64 = 64;
+
+/// How many grunts work where no number is given.
+const DEFAULT_GRUNTS: u64 = 4;
+
+/// The most leases whose report is lost.
+const MOST_LOSE: u64 = 65536;
+
+/// For how many leases the report is lost where no number is given.
+const DEFAULT_LOSE: u64 = 0;
+
+/// The most steps of an ascent.
+const MOST_STEPS: u64 = 10000;
+
+/// How many steps are taken where no number is given.
+const DEFAULT_STEPS: u64 = 100;
+
 /// Reads the words of the solver's command line, of which the first is the program's name.
 ///
 /// `Usage` comes exactly where the words are not of a command's form; `NoMemory` may come for any words.
@@ -46,6 +70,9 @@ pub fn read_command(alloc: Global, words: &[String]) -> Result<Command, WordsErr
         Some(("solve", found)) => Ok(Command::Solve(solve(alloc, found)?)),
         Some(("tour", found)) => Ok(Command::Tour(tour(alloc, found)?)),
         Some(("bench", found)) => Ok(Command::Bench(bench(alloc, found)?)),
+        Some(("replay", found)) => Ok(Command::Replay(replay(alloc, found)?)),
+        Some(("bound", found)) => Ok(Command::Bound(bound(alloc, found)?)),
+        Some(("checkbound", found)) => Ok(Command::Checkbound(checkbound(alloc, found)?)),
         Some((_, found)) => Ok(Command::Verify(verify(alloc, found)?)),
         None => Err(WordsError::Usage),
     }
@@ -110,6 +137,10 @@ fn solve(alloc: Global, found: &ArgMatches) -> Result<Solve, AllocError>
         seed: seed(found),
         resume: resume(found),
         gap: gap(found),
+        grunts: grunts(found),
+        lose: lose(found),
+        twice: switch(found, "twice"),
+        late: switch(found, "late"),
     })
 }
 
@@ -136,6 +167,39 @@ fn bench(alloc: Global, found: &ArgMatches) -> Result<BenchWords, AllocError>
         cities,
         budget,
         out,
+    })
+}
+
+// The call of `replay` that was found.
+fn replay(alloc: Global, found: &ArgMatches) -> Result<ReplayWords, AllocError>
+    ensures { IfOk result (IsReplayOf (rows_of (found_of found.now))) }
+{
+    Ok(ReplayWords {
+        instance: path(alloc, found, "instance")?,
+        tape: path(alloc, found, "tape")?,
+        budget: budget(found),
+        grunts: grunts(found),
+    })
+}
+
+// The call of `bound` that was found.
+fn bound(alloc: Global, found: &ArgMatches) -> Result<BoundWords, AllocError>
+    ensures { IfOk result (IsBoundOf (rows_of (found_of found.now))) }
+{
+    Ok(BoundWords {
+        instance: path(alloc, found, "instance")?,
+        cert: path(alloc, found, "cert")?,
+        steps: steps(found),
+    })
+}
+
+// The call of `checkbound` that was found.
+fn checkbound(alloc: Global, found: &ArgMatches) -> Result<CheckboundWords, AllocError>
+    ensures { IfOk result (IsCheckboundOf (rows_of (found_of found.now))) }
+{
+    Ok(CheckboundWords {
+        instance: path(alloc, found, "instance")?,
+        cert: path(alloc, found, "cert")?,
     })
 }
 
@@ -198,7 +262,14 @@ fn seed(found: &ArgMatches) -> u64
 fn resume(found: &ArgMatches) -> bool
     ensures { result ≡ is_on (word_in (codes "resume") (rows_of (found_of found.now))) }
 {
-    word(found, "resume") == "true"
+    switch(found, "resume")
+}
+
+// Whether a switch was found.
+fn switch(found: &ArgMatches, id: &str) -> bool
+    ensures { result ≡ is_on (word_in id.now (rows_of (found_of found.now))) }
+{
+    word(found, id) == "true"
 }
 
 // The gap that was found.
@@ -207,6 +278,39 @@ fn gap(found: &ArgMatches) -> u64
     ensures most { result ≤ 4398046511104 }
 {
     number_in(word(found, "gap"), 0, MOST_GAP, DEFAULT_GAP)
+}
+
+// The number of grunts that was found.
+fn grunts(found: &ArgMatches) -> u32
+    ensures value { result ≡ grunts_in (word_in (codes "grunts") (rows_of (found_of found.now))) }
+    ensures least { 1 ≤ result }
+    ensures most { result ≤ 64 }
+{
+    let grunts = number_in(
+        word(found, "grunts"),
+        LEAST_GRUNTS,
+        MOST_GRUNTS,
+        DEFAULT_GRUNTS,
+    );
+    grunts as u32
+}
+
+// For how many leases the report is lost, as was found.
+fn lose(found: &ArgMatches) -> u32
+    ensures value { result ≡ lose_in (word_in (codes "lose") (rows_of (found_of found.now))) }
+    ensures most { result ≤ 65536 }
+{
+    let lose = number_in(word(found, "lose"), 0, MOST_LOSE, DEFAULT_LOSE);
+    lose as u32
+}
+
+// The number of steps that was found.
+fn steps(found: &ArgMatches) -> u32
+    ensures value { result ≡ steps_in (word_in (codes "steps") (rows_of (found_of found.now))) }
+    ensures most { result ≤ 10000 }
+{
+    let steps = number_in(word(found, "steps"), 0, MOST_STEPS, DEFAULT_STEPS);
+    steps as u32
 }
 
 // The number that a word says where it is from `least` to `most`, else `default`.

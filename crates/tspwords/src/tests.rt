@@ -92,6 +92,124 @@ fn words_that_resume_or_leave_a_gap(rt: HostRuntime) -> Result<(), Fail> {
     Ok(())
 }
 
+#[test]
+fn words_that_set_grunts_and_how_reports_go_astray(rt: HostRuntime) -> Result<(), Fail> {
+    for (line, grunts, lose, twice, late) in [
+        ("tspc solve a b c", 4, 0, false, false),
+        ("tspc solve a b c --grunts 1", 1, 0, false, false),
+        ("tspc solve a b c --grunts 64", 64, 0, false, false),
+        ("tspc solve --grunts=+5 a b c", 5, 0, false, false),
+        ("tspc solve a b c --lose 0", 4, 0, false, false),
+        ("tspc solve a b c --lose 65536", 4, 65536, false, false),
+        ("tspc solve a --lose 007 b c", 4, 7, false, false),
+        ("tspc solve a b c --twice", 4, 0, true, false),
+        ("tspc solve a b c --late", 4, 0, false, true),
+        ("tspc solve --late a b --twice c", 4, 0, true, true),
+        (
+            "tspc solve a b c --grunts 3 --lose 8 --twice --late",
+            3,
+            8,
+            true,
+            true,
+        ),
+        (
+            "tspc solve a b c --resume --late --lose 2 --grunts 8 --gap 5",
+            8,
+            2,
+            false,
+            true,
+        ),
+    ] {
+        match read(rt.alloc(), line)? {
+            Command::Solve(solve) => {
+                assert_eq!(rt; solve.restart.as_str(), "c", "{line}");
+                assert_eq!(rt; solve.budget, 65536, "{line}");
+                assert_eq!(rt; solve.seed, 1, "{line}");
+                assert_eq!(rt; solve.grunts, grunts, "{line}");
+                assert_eq!(rt; solve.lose, lose, "{line}");
+                assert_eq!(rt; solve.twice, twice, "{line}");
+                assert_eq!(rt; solve.late, late, "{line}");
+            }
+            _ => panic!(rt; "{line}"),
+        }
+    }
+    Ok(())
+}
+
+#[test]
+fn words_of_replay_that_are_taken(rt: HostRuntime) -> Result<(), Fail> {
+    for (line, instance, tape, budget, grunts) in [
+        ("tspc replay a b", "a", "b", 65536, 4),
+        ("tspc replay a b --budget 0", "a", "b", 0, 4),
+        ("tspc replay a b --budget 65536", "a", "b", 65536, 4),
+        ("tspc replay a b --grunts 1", "a", "b", 65536, 1),
+        ("tspc replay a b --grunts 64", "a", "b", 65536, 64),
+        (
+            "tspc replay --grunts 2 replay --budget=3 b",
+            "replay",
+            "b",
+            3,
+            2,
+        ),
+        ("tspc replay -- -a --grunts", "-a", "--grunts", 65536, 4),
+    ] {
+        match read(rt.alloc(), line)? {
+            Command::Replay(replay) => {
+                assert_eq!(rt; replay.instance.as_str(), instance, "{line}");
+                assert_eq!(rt; replay.tape.as_str(), tape, "{line}");
+                assert_eq!(rt; replay.budget, budget, "{line}");
+                assert_eq!(rt; replay.grunts, grunts, "{line}");
+            }
+            _ => panic!(rt; "{line}"),
+        }
+    }
+    Ok(())
+}
+
+#[test]
+fn words_of_bound_that_are_taken(rt: HostRuntime) -> Result<(), Fail> {
+    for (line, instance, cert, steps) in [
+        ("tspc bound a b", "a", "b", 100),
+        ("tspc bound a b --steps 0", "a", "b", 0),
+        ("tspc bound a b --steps 10000", "a", "b", 10000),
+        (
+            "tspc bound --steps=7 bound checkbound",
+            "bound",
+            "checkbound",
+            7,
+        ),
+        ("tspc bound -- -a --steps", "-a", "--steps", 100),
+    ] {
+        match read(rt.alloc(), line)? {
+            Command::Bound(bound) => {
+                assert_eq!(rt; bound.instance.as_str(), instance, "{line}");
+                assert_eq!(rt; bound.cert.as_str(), cert, "{line}");
+                assert_eq!(rt; bound.steps, steps, "{line}");
+            }
+            _ => panic!(rt; "{line}"),
+        }
+    }
+    Ok(())
+}
+
+#[test]
+fn words_of_checkbound_that_are_taken(rt: HostRuntime) -> Result<(), Fail> {
+    for (line, instance, cert) in [
+        ("tspc checkbound a b", "a", "b"),
+        ("tspc checkbound checkbound bound", "checkbound", "bound"),
+        ("tspc checkbound -- -a -b", "-a", "-b"),
+    ] {
+        match read(rt.alloc(), line)? {
+            Command::Checkbound(check) => {
+                assert_eq!(rt; check.instance.as_str(), instance, "{line}");
+                assert_eq!(rt; check.cert.as_str(), cert, "{line}");
+            }
+            _ => panic!(rt; "{line}"),
+        }
+    }
+    Ok(())
+}
+
 // The name of a switch is a path behind `--`.
 #[test]
 fn a_path_that_is_called_resume_resumes_nothing(rt: HostRuntime) -> Result<(), Fail> {
@@ -263,6 +381,50 @@ fn words_that_are_not_taken(rt: HostRuntime) -> Result<(), Fail> {
         "tspc tour a --seed 1 --seed 2",
         "tspc tour a --budget 1",
         "tspc tour a --help",
+        "tspc solve a b c --grunts",
+        "tspc solve a b c --grunts 0",
+        "tspc solve a b c --grunts 65",
+        "tspc solve a b c --grunts -1",
+        "tspc solve a b c --grunts 2 --grunts 3",
+        "tspc solve a b c --lose",
+        "tspc solve a b c --lose 65537",
+        "tspc solve a b c --lose -1",
+        "tspc solve a b c --twice 1",
+        "tspc solve a b c --twice=true",
+        "tspc solve a b c --twice --twice",
+        "tspc solve a b c --late=",
+        "tspc solve a b c --late --late",
+        "tspc solve a b c --steps 1",
+        "tspc tour a --grunts 1",
+        "tspc bench 1 3 5 p --grunts 1",
+        "tspc verify a b --late",
+        "tspc replay",
+        "tspc replay a",
+        "tspc replay a b c",
+        "tspc replay a b --budget 65537",
+        "tspc replay a b --budget -1",
+        "tspc replay a b --grunts 0",
+        "tspc replay a b --grunts 65",
+        "tspc replay a b --seed 1",
+        "tspc replay a b --resume",
+        "tspc replay a b --lose 1",
+        "tspc replay a b --help",
+        "tspc repla a b",
+        "tspc bound",
+        "tspc bound a",
+        "tspc bound a b c",
+        "tspc bound a b --steps",
+        "tspc bound a b --steps 10001",
+        "tspc bound a b --steps -1",
+        "tspc bound a b --steps 1 --steps 1",
+        "tspc bound a b --budget 1",
+        "tspc bound a b -h",
+        "tspc checkbound",
+        "tspc checkbound a",
+        "tspc checkbound a b c",
+        "tspc checkbound a b --steps 1",
+        "tspc checkbound a b --help",
+        "tspc check a b",
     ] {
         assert_eq!(rt;
             read(rt.alloc(), line).err(),

@@ -6,8 +6,10 @@ use std::error::Error;
 use std::fmt;
 
 /// A call of `solve`: the paths of the instance, of the proof and of the restart slots; the greatest number of nodes to
-/// settle, from 0 to 65,536; the seed of the random choices; whether to go on from what the restart slots hold; and the gap,
-/// from 0 to 2^42, by which the tour may be longer than a shortest one.
+/// settle, from 0 to 65,536; the seed of the random choices; whether to go on from what the restart slots hold; the gap, from
+/// 0 to 2^42, by which the tour may be longer than a shortest one; the number of grunts, from 1 to 64, that work at the same
+/// time; and how their reports go astray: the number of leases, from 0 to 65,536, whose reports are lost, and whether each
+/// other report comes twice, or late.
 #[derive(Debug, Drop)]
 pub struct Solve {
     pub instance: String,
@@ -17,6 +19,10 @@ pub struct Solve {
     pub seed: u64,
     pub resume: bool,
     pub gap: u64,
+    pub grunts: u32,
+    pub lose: u32,
+    pub twice: bool,
+    pub late: bool,
 }
 
 /// A call of `verify`, or of the verifier: the paths of the instance and of the proof.
@@ -43,10 +49,36 @@ pub struct BenchWords {
     pub out: String,
 }
 
+/// A call of `replay`: the paths of the instance and of the tape; the greatest number of nodes to settle, from 0 to 65,536;
+/// and the number of grunts, from 1 to 64.
+#[derive(Debug, Drop)]
+pub struct ReplayWords {
+    pub instance: String,
+    pub tape: String,
+    pub budget: u32,
+    pub grunts: u32,
+}
+
+/// A call of `bound`: the paths of the instance and of the certificate that is written, and the number of steps of the ascent,
+/// from 0 to 10,000.
+#[derive(Debug, Drop)]
+pub struct BoundWords {
+    pub instance: String,
+    pub cert: String,
+    pub steps: u32,
+}
+
+/// A call of `checkbound`: the paths of the instance and of the certificate.
+#[derive(Debug, Drop)]
+pub struct CheckboundWords {
+    pub instance: String,
+    pub cert: String,
+}
+
 /// A command of the solver.
 #[derive(Debug, Drop)]
 pub enum Command {
-    /// `solve INSTANCE PROOF RESTART [--budget N] [--seed S] [--resume] [--gap G]`
+    /// `solve INSTANCE PROOF RESTART [--budget N] [--seed S] [--resume] [--gap G] [--grunts K] [--lose N] [--twice] [--late]`
     Solve(Solve),
     /// `verify INSTANCE PROOF`
     Verify(VerifyWords),
@@ -54,6 +86,12 @@ pub enum Command {
     Tour(TourWords),
     /// `bench SEED N BUDGET OUT`
     Bench(BenchWords),
+    /// `replay INSTANCE TAPE [--budget N] [--grunts K]`
+    Replay(ReplayWords),
+    /// `bound INSTANCE CERT [--steps K]`
+    Bound(BoundWords),
+    /// `checkbound INSTANCE CERT`
+    Checkbound(CheckboundWords),
 }
 
 /// Why words were not read.

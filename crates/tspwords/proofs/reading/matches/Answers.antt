@@ -1,6 +1,6 @@
 use Rattle.std.proofs.Common.{map, string_bytes}
 use Rattle.clap.specs.Simple.{app_of}
-use Rattle.tspwords.proofs.Taken.{commands_there}
+use Rattle.tspwords.proofs.Says.{commands_there}
 use Rattle.tspwords.proofs.reading.matches.Goals as goal
 
 pub returns-clause-named : goal.returns-clause-named

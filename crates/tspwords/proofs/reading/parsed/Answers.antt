@@ -1,6 +1,6 @@
 use Rattle.clap.specs.Simple.{app_of, built, is_simple}
 use Rattle.clap.specs.Faults.{is_free_app}
-use Rattle.tspwords.proofs.Taken.{both_true}
+use Rattle.tspwords.proofs.Says.{both_true}
 use Rattle.tspwords.proofs.reading.parsed.Goals as goal
 
 pub returns-in-Ok-clause-rows : goal.returns-in-Ok-clause-rows
