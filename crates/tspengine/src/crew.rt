@@ -1,5 +1,5 @@
 //! Whom and what a search sends out.
-use cutpool::SharedPool;
+use tspround::SharedPool;
 use neigh::Neigh;
 use std::alloc::Global;
 use std::sync::Arc;

@@ -12,7 +12,7 @@ use crate::crew::{Crew, Field};
 use crate::outcomes::text_of;
 use crate::starting::{Halt, Search};
 use bossx::{Boss, events_are_charged};
-use cutpool::SharedPool;
+use tspround::SharedPool;
 use grunt::LpWorker;
 use ports::{Gate, Posts, Slots};
 use slotstore::Store;
@@ -54,11 +54,21 @@ pub(crate) fn search<R: Threads + Wait + Sync, L: Slots, P: Posts + Sync, G: Gat
     let field = Field {
         near,
         pool: SharedPool::new(alloc, instance.n())?,
-        instance: Arc::new(alloc, instance.copy(alloc)?)?,
+        instance: shared(alloc, instance)?,
         seed,
     };
     let boss = search_in_rounds(crew, alloc, &field, boss, slots, store)?;
     search_alone(crew, alloc, &field, boss, slots, store)
+}
+
+/// A copy of an instance, to be shared by threads.
+fn shared(alloc: Global, instance: &Instance) -> Result<Arc<Instance, Global>, AllocError>
+    ensures { IfOk result (λ a. arc_value a ≡ instance.now) }
+{
+    match Arc::new(alloc, instance.copy(alloc)?) {
+        Ok(shared) => Ok(shared),
+        Err(_) => Err(AllocError),
+    }
 }
 
 /// Sends the grunts out, round by round, while that gets on: while a node is open, the budget is not settled and few leases are lost,
@@ -122,7 +132,7 @@ fn play_round<R: Threads + Wait + Sync, P: Posts + Sync, G: Gate + Sync>(
         alloc,
         boss,
         &field.pool,
-        field.instance.try_clone()?,
+        Arc::try_clone(&field.instance)?,
         &field.near,
         &LpWorker,
         crew.posts,
