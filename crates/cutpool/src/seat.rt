@@ -92,7 +92,7 @@ impl SharedPool {
     }
 
     /// A seat at the pool, of which no cut is yet.
-    pub fn seat<'a, R: Wait>(&'a self, rt: &'a R) -> Seat<'a, R>
+    pub fn seat<'a, R>(&'a self, rt: &'a R) -> Seat<'a, R>
         ensures { result ≡ record { n = self.now.n; cuts = [] } }
     {
         Seat {
@@ -128,7 +128,7 @@ impl SharedPool {
 /// A grunt's seat at a shared pool: what it shared it can read again, whatever other seats do. Contracts see n, and the list
 /// of the seat's own cuts, in order of place.
 #[derive(Drop)]
-pub struct Seat<'a, R: Wait> {
+pub struct Seat<'a, R> {
     pool: &'a SharedPool,
     rt: &'a R,
     // copies of its own cuts, to find an equal one
@@ -136,7 +136,7 @@ pub struct Seat<'a, R: Wait> {
     tokens: Vec<Token>,
 }
 
-impl<'a, R: Wait> Model for Seat<'a, R> {
+impl<'a, R> Model for Seat<'a, R> {
     ghost use Rattle.cutpool.specs.Pool.{Pool};
     ghost use Rattle.cutpool.specs.Seat.{AreSeatsOwn};
 
@@ -147,7 +147,7 @@ impl<'a, R: Wait> Model for Seat<'a, R> {
     ghost invariant = { λ s. AreSeatsOwn s.pool.now s.cuts.keys s.tokens.items };
 }
 
-impl<'a, R: Wait> Seat<'a, R> {
+impl<'a, R> Seat<'a, R> {
     /// Of how many cities the cuts of its pool are.
     pub fn n(&self) -> u32
         ensures value { result ≡ self.now.n }
@@ -173,31 +173,6 @@ impl<'a, R: Wait> Seat<'a, R> {
         ensures { slice_get self.now.cuts place ≡ Some result.now }
     {
         self.pool.cuts().value(&self.tokens[place as usize])
-    }
-
-    /// Shares a copy of a cut, where none of the seat's own is equal and there is room. On want of memory the seat's own are
-    /// as they were.
-    ///
-    /// O(cities of its sets), in the mean. The push may wait for another seat's push to end.
-    pub fn share(&mut self, alloc: Global, cut: &Cut) -> Result<Seated, AllocError>
-        requires { cities_of cut.now ≡ self.old.n }
-        ensures seated { IfOk result (IsSeated self.old self.new cut.now) }
-        ensures unchanged { OnErr result (self.new ≡ self.old) }
-    {
-        let _n = cut.n();
-        if let Some(place) = self.cuts.get_index_of(cut) {
-            return Ok(Seated::Shared(place as u32));
-        }
-        let place = self.cuts.len();
-        if place >= MOST {
-            return Ok(Seated::Full);
-        }
-        let copy = cut.copy(alloc)?;
-        self.tokens.reserve(1)?;
-        let token = self.pool.push(self.rt, alloc, cut)?;
-        self.cuts.insert(copy)?;
-        self.tokens.push_reserved(token);
-        Ok(Seated::Shared(place as u32))
     }
 
     /// Copies of cuts of the pool that the values violate by 2^10 units or more: the seat's own, in order of place, then
@@ -249,6 +224,33 @@ impl<'a, R: Wait> Seat<'a, R> {
             }
         }
         Ok(found)
+    }
+}
+
+impl<'a, R: Wait> Seat<'a, R> {
+    /// Shares a copy of a cut, where none of the seat's own is equal and there is room. On want of memory the seat's own are
+    /// as they were.
+    ///
+    /// O(cities of its sets), in the mean. The push may wait for another seat's push to end.
+    pub fn share(&mut self, alloc: Global, cut: &Cut) -> Result<Seated, AllocError>
+        requires { cities_of cut.now ≡ self.old.n }
+        ensures seated { IfOk result (IsSeated self.old self.new cut.now) }
+        ensures unchanged { OnErr result (self.new ≡ self.old) }
+    {
+        let _n = cut.n();
+        if let Some(place) = self.cuts.get_index_of(cut) {
+            return Ok(Seated::Shared(place as u32));
+        }
+        let place = self.cuts.len();
+        if place >= MOST {
+            return Ok(Seated::Full);
+        }
+        let copy = cut.copy(alloc)?;
+        self.tokens.reserve(1)?;
+        let token = self.pool.push(self.rt, alloc, cut)?;
+        self.cuts.insert(copy)?;
+        self.tokens.push_reserved(token);
+        Ok(Seated::Shared(place as u32))
     }
 }
 

@@ -72,7 +72,10 @@ fn a_seat_of_4096_cuts_takes_no_other(rt: HostRuntime) -> Result<(), Fail> {
             continue;
         }
         let cut = subtour_of_bits(alloc, bits)?;
-        assert_eq!(rt; offered(alloc, &mut seat, &cut)?, Some(Seated::Shared(shared)));
+        assert_eq!(rt;
+            offered(alloc, &mut seat, &cut)?,
+            Some(Seated::Shared(shared))
+        );
         shared = shared.wrapping_add(1);
     }
     assert_eq!(rt; shared, 4096);
