@@ -3,13 +3,13 @@ ghost use Rattle.std.specs.Prelude.{map, string_bytes};
 ghost use Rattle.tspengine.specs.Runs.{Runs};
 
 use crate::benching::bench;
-use crate::crew::Crew;
+use crate::crew::{BothPosts, Crew};
 use crate::solving::solve;
 use crate::statuses::Status;
 use crate::touring::tour;
 use crate::usage::usage;
 use crate::verifying::verify;
-use ports::{Desk, Gate, PlainPosts, Posts, Slots, WorsePosts};
+use ports::{Desk, Gate, PlainPosts, Posts, Slots};
 use resume_form::bodies_have_one_reading;
 use std::alloc::Global;
 use std::sync::Wait;
@@ -73,7 +73,10 @@ pub fn run<R: Threads + Wait + Sync, D: Desk, L: Slots, P: Posts + Sync, G: Gate
                 twice: words.twice,
                 late: words.late,
             };
-            let posts = WorsePosts::new(&told, posts);
+            let posts = BothPosts {
+                told: &told,
+                handed: posts,
+            };
             let crew = Crew {
                 rt,
                 posts: &posts,
@@ -84,6 +87,7 @@ pub fn run<R: Threads + Wait + Sync, D: Desk, L: Slots, P: Posts + Sync, G: Gate
         Ok(Command::Verify(words)) => verify(alloc, &words, desk),
         Ok(Command::Tour(words)) => tour(alloc, &words, desk),
         Ok(Command::Bench(words)) => bench(alloc, &words, desk),
+        Ok(Command::Replay(_) | Command::Bound(_) | Command::Checkbound(_)) => usage(desk),
         Err(WordsError::Usage) => usage(desk),
         Err(WordsError::NoMemory) => Status::NoMemory,
     }

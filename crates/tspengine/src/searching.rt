@@ -12,7 +12,7 @@ use crate::crew::{Crew, Field};
 use crate::outcomes::text_of;
 use crate::starting::{Halt, Search};
 use bossx::{Boss, events_are_charged};
-use tspround::SharedPool;
+use cutpool::SharedPool;
 use grunt::LpWorker;
 use ports::{Gate, Posts, Slots};
 use slotstore::Store;

@@ -5,3 +5,4 @@ pub mod Turns
 pub mod Lengths
 pub mod Few
 pub mod Holding
+pub mod Crossing

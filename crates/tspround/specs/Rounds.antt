@@ -49,12 +49,12 @@ pub record IsRun (b new : Book) : Type 0 where
 
 -- What holds of a book under the lock, where the round opened with another: events led to it, by so many grants and takes; its
 -- start is the other's, and its best tour no longer; and each node split since the boss's start is one that the worker may split.
-pub record IsReached (S : Splits) (opening b : Book) (granted taken : ℕ) : Type 0 where
+pub record IsReached (S : Splits) (opening b : Book) (grants takes : ℕ) : Type 0 where
   pub run : IsRun opening b
   pub start : IsSameStart opening b
   pub no_longer : best_length b ≤ best_length opening
-  pub granted : length b.table.leases ≡ length opening.table.leases + granted
-  pub taken : b.settled ≡ opening.settled + taken
+  pub granted : length b.table.leases ≡ length opening.table.leases + grants
+  pub taken : b.settled ≡ opening.settled + takes
   pub splits : IsSplitBy S b
 
 -- an event may come where a split that it brings is one that the worker may make at the node, at the length that the boss started with

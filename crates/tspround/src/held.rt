@@ -62,7 +62,7 @@ impl<J: Opening, W: Worker, L: Ledger, M: Ledger> Model for Held<J, W, L, M> {
 
 impl<J: Opening, W: Worker, L: Ledger, M: Ledger> Held<J, W, L, M> {
     /// The round opens.
-    pub(crate) fn open(boss: Boss, ledgers: Ledgers<L, M>) -> Held<J, W, L, M>
+    pub(crate) fn begin(boss: Boss, ledgers: Ledgers<L, M>) -> Held<J, W, L, M>
         requires opening { boss ≡ J.book }
         requires splits { IsSplitBy W.splits boss }
         requires granted { ledgers.grants.total ≡ 0 }
@@ -98,15 +98,9 @@ impl<J: Opening, W: Worker, L: Ledger, M: Ledger> Held<J, W, L, M> {
         tables_grow();
         let _book = self.boss.snapshot();
         let reply = self.boss.act(event);
-        if is_granted(reply) {
-            self.ledgers.grants.add(&mut mine.grants, 1);
-        }
-        if is_taken(reply) {
-            self.ledgers.takes.add(&mut mine.takes, 1);
-        }
-        self.ledgers.grants.audit(&mut mine.grants);
-        self.ledgers.takes.audit(&mut mine.takes);
-        let _kept = self.boss.leases();
+        count(&mut self.ledgers, mine, reply);
+        let _grants = self.boss.leases().grants();
+        let _settled = self.boss.settled();
         reply
     }
 
@@ -152,7 +146,7 @@ impl<J: Opening, W: Worker, L: Ledger, M: Ledger> Held<J, W, L, M> {
             best: self.boss.best_length(),
             open: tree.open_nodes(),
             settled: self.boss.settled(),
-            least_key: None,
+            least_key: self.boss.least_key(),
         }
     }
 
@@ -171,6 +165,29 @@ impl<J: Opening, W: Worker, L: Ledger, M: Ledger> Held<J, W, L, M> {
         ledgers.takes.audit(&mut all.takes);
         (boss, all)
     }
+}
+
+/// Counts what was granted or taken with a reply.
+fn count<L: Ledger, M: Ledger>(ledgers: &mut Ledgers<L, M>, mine: &mut Shares<L, M>, reply: Reply)
+    requires grants { 0 < mine.old.grants.parts }
+    requires takes { 0 < mine.old.takes.parts }
+    ensures granted { ledgers.new.grants.total ≡ ledgers.old.grants.total + granted_with reply }
+    ensures taken { ledgers.new.takes.total ≡ ledgers.old.takes.total + taken_with reply }
+    ensures my_grants { mine.new.grants.amount ≡ mine.old.grants.amount + granted_with reply }
+    ensures my_takes { mine.new.takes.amount ≡ mine.old.takes.amount + taken_with reply }
+    ensures grants { mine.new.grants.parts ≡ mine.old.grants.parts }
+    ensures takes { mine.new.takes.parts ≡ mine.old.takes.parts }
+    ensures few_grants { mine.new.grants.amount ≤ ledgers.new.grants.total }
+    ensures few_takes { mine.new.takes.amount ≤ ledgers.new.takes.total }
+{
+    if is_granted(reply) {
+        ledgers.grants.add(&mut mine.grants, 1);
+    }
+    if is_taken(reply) {
+        ledgers.takes.add(&mut mine.takes, 1);
+    }
+    ledgers.grants.audit(&mut mine.grants);
+    ledgers.takes.audit(&mut mine.takes);
 }
 
 /// Whether a lease was granted with a reply.

@@ -17,12 +17,10 @@ mod seat;
 mod sent;
 mod serving;
 mod sets;
-mod stub;
 
 pub use laws::{few_cities_end, nothing_is_split_at_the_start, splits_stay, sure_work_is_taken};
 pub use opening::Opening;
 pub use round::{Round, rounds};
-pub use stub::SharedPool;
 pub use searching::{alone, alone_counted};
 pub use seat::Counts;
 pub use worker::Effort;

@@ -1,5 +1,5 @@
 //! One round: the boss goes into its lock, the grunts run, and the boss comes out.
-ghost use Rattle.std.specs.Prelude.{◌≡◌, ◌+◌, ◌*◌, ◌<◌, ◌≤◌, length, vec_len, IfOk};
+ghost use Rattle.std.specs.Prelude.{◌≡◌, ◌+◌, ◌*◌, ◌<◌, ◌≤◌, [], length, vec_len, vec_capacity, IfOk};
 ghost use Rattle.std.specs.Arc.{arc_value};
 ghost use Rattle.tspround.specs.Alone.{IsSplitBy};
 ghost use Rattle.tspround.specs.Rounds.{IsRound, granted_by, taken_by};
@@ -9,7 +9,7 @@ use crate::opening::Opening;
 use crate::room::Room;
 use crate::seat::{Counts, Seat};
 use bossx::Boss;
-use crate::stub::SharedPool;
+use cutpool::SharedPool;
 use neigh::Neigh;
 use ports::{Gate, Posts};
 use std::alloc::{AllocError, Global};
@@ -126,7 +126,7 @@ fn round_of<
     let counts = Vec::with_capacity(alloc, grunts as usize)?;
     let room = Room {
         alloc,
-        held: Mutex::new(Held::<J, W, L, M>::open(boss, Ledgers { grants, takes })),
+        held: Mutex::new(Held::<J, W, L, M>::begin(boss, Ledgers { grants, takes })),
         freed: Condvar::new(),
         pool,
         instance,

@@ -1,5 +1,6 @@
 //! What a grunt does from its seat: it asks, works and reports.
-ghost use Rattle.std.specs.Prelude.{◌≡◌, ◌≤◌, IfOk};
+ghost use Rattle.std.specs.Prelude.{◌≡◌, IfOk, IfSome};
+ghost use Rattle.bossx.specs.declared.replies.Asked as told;
 ghost use Rattle.worker.specs.Works.{SplitsOnly};
 ghost use Rattle.tspround.specs.Rounds.{IsOrder, IfWork};
 
@@ -204,15 +205,27 @@ impl<J: Opening, L: Ledger, M: Ledger> Seat<J, L, M> {
                 room.freed.notify_all();
                 was_told = true;
             }
-            match reply {
-                Reply::Asked(Asked::Leased { lease, node, best }) => {
-                    return Ok(Given::Work(held.order(room.alloc, lease, node, best)?));
-                }
-                Reply::Asked(Asked::NotYet) if !has_late => held = room.freed.wait(rt, held),
-                Reply::Asked(Asked::NotYet) => return Ok(Given::Again),
-                _ => return Ok(Given::Leave),
+            if let Some((lease, node, best)) = lent(reply) {
+                return Ok(Given::Work(held.order(room.alloc, lease, node, best)?));
             }
+            if !matches!(reply, Reply::Asked(Asked::NotYet)) {
+                return Ok(Given::Leave);
+            }
+            if has_late {
+                return Ok(Given::Again);
+            }
+            held = room.freed.wait(rt, held);
         }
         unreachable!()
+    }
+}
+
+/// The lease, its node and the best tour's length, where a reply lends a node.
+fn lent(reply: Reply) -> Option<(u32, u32, u64)>
+    ensures { IfSome result (λ order. reply ≡ Reply.Asked (told.Asked.Leased order.0 order.1 order.2)) }
+{
+    match reply {
+        Reply::Asked(Asked::Leased { lease, node, best }) => Some((lease, node, best)),
+        _ => None,
     }
 }
