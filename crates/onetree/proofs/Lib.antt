@@ -2,3 +2,4 @@ pub mod Tours
 pub mod Exchange
 pub mod Growing
 pub mod Home
+pub mod Changes

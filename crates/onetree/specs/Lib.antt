@@ -1,3 +1,4 @@
 pub mod OneTrees
 pub mod Laws
 pub mod Growing
+pub mod Ascents
