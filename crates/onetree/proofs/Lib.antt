@@ -3,3 +3,4 @@ pub mod Exchange
 pub mod Growing
 pub mod Home
 pub mod Changes
+pub mod LineLemmas

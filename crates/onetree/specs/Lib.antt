@@ -2,3 +2,5 @@ pub mod OneTrees
 pub mod Laws
 pub mod Growing
 pub mod Ascents
+pub mod Certificates
+pub mod Told

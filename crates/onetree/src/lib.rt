@@ -3,21 +3,27 @@
 //! - [`least_tree`] gives a one-tree for some duals than which no one-tree is lighter.
 //! - [`held_karp`] gives the value of some duals, and [`proved_length`] the length that no tour is below then.
 //! - [`ascend`] gives duals of a high value.
+//! - [`write`] writes the certificate of some duals and the greatest bound that they prove.
 //! - [`tours_are_one_trees`]: the law that the bound rests on.
 #![tactic(auto)]
 
 mod ascent;
 mod climb;
 mod cost;
+mod error;
 mod frontier;
 mod laws;
+mod lines;
 mod tree;
 mod value;
+mod writing;
 
 pub use ascent::ascend;
+pub use error::WriteError;
 pub use laws::tours_are_one_trees;
 pub use tree::{OneTree, least_tree};
 pub use value::{held_karp, proved_length};
+pub use writing::write;
 
 #[cfg(test)]
 mod tests;
