@@ -4,3 +4,4 @@ pub mod Growing
 pub mod Home
 pub mod Changes
 pub mod LineLemmas
+pub mod CertificateLemmas

@@ -1,12 +1,16 @@
 -- The certificate of a Held-Karp bound: what it says, how it is spelled, and which bytes are accepted or refused as one.
-use Rattle.std.specs.Prelude.{◌≡◌, ◌≢◌, ℕ, ◌+◌, ◌-◌, ◌^◌, ◌<◌, ◌≤◌, ◌⊎◌, Bool, true, cond, ◌==◌, List, [], ◌∷◌, ◌++◌, length, map, take, codes, decimal, ℤ, nat_abs, ◌≤ℤ◌, ◌<ℤ◌}
+use Rattle.std.specs.Prelude.{◌≡◌, ◌≢◌, ℕ, ◌+◌, ◌≤◌, ◌⊎◌, Bool, true, cond, ◌==◌, List, [], ◌∷◌, ◌++◌, length, map, codes, decimal, ℤ, nat_abs, ◌≤ℤ◌, ◌<ℤ◌}
 use Rattle.std.specs.List.{AllByRecursion}
 use Rattle.tspdef.specs.Instances.{Instance}
 use Rattle.tspdef.specs.Bounds.{needed}
 use Rattle.certdef.specs.Items.{Item, size_line, bound_line, line, rises, fits}
-use Rattle.certdef.specs.Proofs.{city_item, text_of}
+use Rattle.certdef.specs.Proofs.{city_item, ended, text_of}
 use Rattle.certdef.specs.Accepted.{duals_from}
 use Rattle.onetree.specs.OneTrees.{IsHeldKarp}
+
+-- the first line
+abbrev pub title : List ℕ
+title = codes "TSPTREE 1"
 
 -- what a certificate says: how many cities there are, the bound, and the duals that are not 0, of cities from 1
 pub record Certificate : Type 0 where
@@ -20,7 +24,7 @@ items c = size_line c.cities ∷ bound_line c.bound ∷ map city_item c.duals
 
 -- the lines, without the LF at the end of each
 abbrev pub lines : Certificate → List (List ℕ)
-lines c = codes "TSPTREE 1" ∷ map line (items c)
+lines c = title ∷ map line (items c)
 
 -- the bytes of lines that say these items, with their ends
 abbrev pub said : List Item → List ℕ
@@ -45,6 +49,11 @@ pub record IsText (n : ℕ) (bytes : List ℕ) (c : Certificate) : Type 0 where
   pub form : HasForm n c
   pub size : c.cities ≡ n
 
+-- duals of rising cities from 1 to n, each line within its bounds
+pub record AreRising (n : ℕ) (ps : List (ℕ × ℤ)) : Type 0 where
+  pub fit : AllByRecursion (λ x. fits n x ≡ true) (map city_item ps)
+  pub rise : rises 1 n (map (λ p. p.0) ps) ≡ true
+
 -- the duals of n cities that a certificate says
 abbrev pub duals_of : ℕ → Certificate → List ℤ
 duals_of n c = duals_from c.duals 1 n
@@ -63,20 +72,28 @@ IsAccepted i bytes b = (c : Certificate) × IsText i.n bytes c × (c.bound ≡ b
 
 -- ---- refusals
 
--- No certificate: the finished lines before this one are the first of some certificate about n cities. But no certificate goes on with the
--- line that is finished next, if there is one, and the bytes do not end where a certificate does.
-pub record IsNoCertificate (n : ℕ) (bytes : List ℕ) (at : ℕ) : Type 0 where
-  pub before : List (List ℕ)
+-- Behind the title stand lines that say the first items of some certificate about n cities. But no certificate goes on with an item that
+-- the next line says, and the bytes do not end where a certificate does.
+pub record StopsAt (n : ℕ) (bytes : List ℕ) (at : ℕ) : Type 0 where
+  pub before : List Item
   pub rest : List ℕ
-  pub whole : bytes ≡ text_of before ++ rest
-  pub place : at ≡ length before + 1
-  pub begins : (c : Certificate) × HasForm n c × (c.cities ≡ n) × (before ≡ take (length before) (lines c))
-  pub stuck : (c : Certificate) (l more : List ℕ) → HasForm n c → rest ≡ l ++ 10 ∷ more → take at (lines c) ≡ before ++ l ∷ [] → ⊥
-  pub unfinished : (c : Certificate) → HasForm n c → rest ≡ [] → before ≡ lines c → ⊥
+  pub whole : bytes ≡ ended title ++ (said before ++ rest)
+  pub place : at ≡ length before + 2
+  pub begins : (c : Certificate) × HasForm n c × (c.cities ≡ n) × ((more : List Item) × (items c ≡ before ++ more))
+  pub stuck : (c : Certificate) (x : Item) (later : List Item) (more : List ℕ) → HasForm n c → rest ≡ ended (line x) ++ more → items c ≡ before ++ x ∷ later → ⊥
+  pub unfinished : (c : Certificate) → HasForm n c → rest ≡ [] → items c ≡ before → ⊥
 
--- the first two lines are those of a certificate about another number of cities
+-- the bytes do not begin with the title's line
+abbrev pub HasNoTitle : List ℕ → Type 0
+HasNoTitle bytes = (rest : List ℕ) → bytes ≡ ended title ++ rest → ⊥
+
+-- no certificate: this is the first line that cannot be one's
+abbrev pub IsNoCertificate : ℕ → List ℕ → ℕ → Type 0
+IsNoCertificate n bytes at = ((at ≡ 1) × HasNoTitle bytes) ⊎ StopsAt n bytes at
+
+-- the second line tells another number of cities
 abbrev pub IsOfOtherSize : ℕ → List ℕ → Type 0
-IsOfOtherSize n bytes = (c : Certificate) × ((rest : List ℕ) ×  HasForm n c × (c.cities ≢ n) × (bytes ≡ text_of (take 2 (lines c)) ++ rest))
+IsOfOtherSize n bytes = (m : ℕ) × ((rest : List ℕ) × (fits n (size_line m) ≡ true) × (m ≢ n) × (bytes ≡ ended title ++ (ended (line (size_line m)) ++ rest)))
 
 -- the text of a certificate whose duals do not prove its bound
 abbrev pub IsWeakText : Instance → List ℕ → Type 0

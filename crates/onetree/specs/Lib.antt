@@ -4,3 +4,5 @@ pub mod Growing
 pub mod Ascents
 pub mod Certificates
 pub mod Told
+pub mod Readings
+pub mod Answers

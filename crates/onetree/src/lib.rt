@@ -4,21 +4,27 @@
 //! - [`held_karp`] gives the value of some duals, and [`proved_length`] the length that no tour is below then.
 //! - [`ascend`] gives duals of a high value.
 //! - [`write`] writes the certificate of some duals and the greatest bound that they prove.
+//! - [`check`] judges a certificate.
 //! - [`tours_are_one_trees`]: the law that the bound rests on.
 #![tactic(auto)]
 
+mod answer;
 mod ascent;
+mod checking;
 mod climb;
 mod cost;
 mod error;
 mod frontier;
+mod heading;
 mod laws;
 mod lines;
 mod tree;
 mod value;
 mod writing;
 
+pub use answer::{Answer, CheckError};
 pub use ascent::ascend;
+pub use checking::check;
 pub use error::WriteError;
 pub use laws::tours_are_one_trees;
 pub use tree::{OneTree, least_tree};
