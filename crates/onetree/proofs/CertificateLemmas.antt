@@ -131,3 +131,6 @@ stops_at_bound n bytes one two l e s none = record {
   stuck = λ c x later more f g h. let same : bound_line c.bound ≡ x = cc in none c.bound more (g ∙ ap (λ y. ended (line y) ++ more) (sym same), f.fit.1.0);
   unfinished = λ c f g h. cc;
 }
+
+pub same_city : (v w : ℕ) (x y : ℤ) → city_line v x ≡ city_line w y → v ≡ w
+same_city v w x y e = cc

@@ -5,3 +5,5 @@ pub mod Home
 pub mod Changes
 pub mod LineLemmas
 pub mod CertificateLemmas
+pub mod DualLemmas
+pub mod JudgingLemmas

@@ -1,5 +1,7 @@
 -- What is answered about certificates, and what a desk is told.
-use Rattle.std.specs.Prelude.{◌≡◌, ℕ, ◌≤◌, List}
+use Rattle.std.specs.Prelude.{◌≡◌, ℕ, ◌≤◌, List, ℤ, ◌≤ℤ◌, ◌<ℤ◌}
+use Rattle.tspdef.specs.Bounds.{needed}
+use Rattle.onetree.specs.OneTrees.{IsHeldKarp}
 use Rattle.tspdef.specs.Instances.{Instance, IsTourOf, length_in}
 use Rattle.onetree.specs.Certificates.{IsAccepted, IsRefused}
 use Rattle.onetree.specs.declared.answer.Answer.{Answer}
@@ -18,3 +20,8 @@ NoTourIsShorterThan i (answers.No k at) = Unit {0}
 -- bytes have one answer
 abbrev pub AnswersAreOne : Type 0
 AnswersAreOne = (i : Instance) (bytes : List ℕ) (a b : Answer) → i.n ≤ 2000 → Judges i bytes a → Judges i bytes b → a ≡ b
+
+-- the answer about a bound and duals that were read
+abbrev pub Prices : Instance → List ℤ → ℕ → Answer → Type 0
+Prices i p b (answers.Yes x) = (x ≡ b) × ((h : ℤ) × IsHeldKarp i p h × (needed b <ℤ h))
+Prices i p b (answers.No k at) = (k ≡ 7) × (at ≡ 3) × ((h : ℤ) × IsHeldKarp i p h × (h ≤ℤ needed b))

@@ -42,3 +42,8 @@ pub record StopsDuals (n : ℕ) (text : List ℕ) (at : ℕ) : Type 0 where
 abbrev pub ReadsDuals : ℕ → List ℕ → List ℤ → Option ℕ → Type 0
 ReadsDuals n text p None = SaysDuals n text p
 ReadsDuals n text p (Some at) = StopsDuals n text at
+
+-- the least city that may come next, where cities rise
+abbrev pub next_city : ℕ → List (ℕ × ℤ) → ℕ
+next_city from [] = from
+next_city from (p ∷ ps) = next_city (p.0 + 1) ps

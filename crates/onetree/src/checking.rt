@@ -6,7 +6,7 @@ ghost use Rattle.ports.specs.Outside.{BothTell, WhereTold, Cause};
 ghost use Rattle.onetree.specs.OneTrees.{AreDuals};
 ghost use Rattle.onetree.specs.Ascents.{zeros};
 ghost use Rattle.onetree.specs.Readings.{ReadsDuals};
-ghost use Rattle.onetree.specs.Answers.{Judges, NoTourIsShorterThan};
+ghost use Rattle.onetree.specs.Answers.{Judges, NoTourIsShorterThan, Prices};
 
 use crate::answer::{Answer, CheckError};
 use crate::heading::{Stop, head, next_dual};
@@ -71,6 +71,8 @@ fn price(
     duals: &[i64],
     bound: u64,
 ) -> Result<Answer, AllocError>
+    requires { AreDuals instance.now.n duals.now }
+    ensures { IfOk result (λ a. Prices instance.now duals.now bound a) }
 {
     let value = held_karp(alloc, instance, duals)?;
     if value <= i128::from(bound) * SCALE - SCALE {
