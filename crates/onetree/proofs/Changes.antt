@@ -11,9 +11,10 @@ use Rattle.std.proofs.Math.Nat.{mul-le-mul_right, pow-le-pow_right}
 use Rattle.tspdef.specs.Sums.{sum_below}
 use Rattle.tspdef.specs.Instances.{Instance, dist}
 use Rattle.tspdef.specs.Bounds.{scale}
-use Rattle.tspdef.proofs.SumLemmas.{sum_below-same, sum_below-add, sum_below-at}
+use Rattle.tspdef.proofs.SumLemmas.{sum_below-same, sum_below-add, sum_below-at, sum_below-zero}
 use Rattle.onetree.specs.OneTrees.{is_end, degree, IsPair, IsOneTree, IsLightest, IsHeldKarp, weight, dual_of, reduced, AreDuals}
-use Rattle.onetree.specs.Ascents.{least_gain, zeros, moved, changed, IsStill, HasValue, AreAtRest, Reaches}
+use Rattle.onetree.specs.Ascents.{least_gain, zeros, moved, changed, IsStill, HasValue, AreAtRest, AreRaised, Reaches}
+use Rattle.onetree.proofs.Tours.{held_karp_is_one}
 
 -- ---- duals
 
@@ -280,3 +281,35 @@ is_true b e = e
 -- a value that rose is no lower
 pub reaches_at_rest : (i : Instance) (steps : ℕ) (p : List ℤ) (z x h g : ℤ) (k : ℕ) → z ≡ x → (x +ℤ pos (k * least_gain)) ≤ℤ g → h ≡ g → AreAtRest i p h → Reaches i steps p z h
 reaches_at_rest i steps p z x h g k same low e rest = inr ((let a : pos 0 ≤ℤ pos (k * least_gain) = omega (arith, ints) in omega (arith, ints)), rest)
+
+-- ---- the value of all duals 0 is not negative
+
+zero_dual : (n v : ℕ) → dual_of (zeros n) v ≡ pos 0
+zero_dual zero v = refl
+zero_dual (suc n) zero = refl
+zero_dual (suc n) (suc v) = zero_dual n v
+
+zero_weight : (i : Instance) (es : List (ℕ × ℕ)) → pos 0 ≤ℤ weight (reduced i (zeros i.n)) es
+zero_weight i [] = omega (arith, ints)
+zero_weight i (e ∷ es) =
+    let ih = zero_weight i es in
+    let a = zero_dual i.n e.0 in
+    let b = zero_dual i.n e.1 in
+    omega (arith, ints)
+
+zero_value : (i : Instance) (z : ℤ) → IsHeldKarp i (zeros i.n) z → pos 0 ≤ℤ z
+zero_value i z (w, ((es, t, same), least), is) =
+    let a = zero_weight i es in
+    let s = sum_below-same (dual_of (zeros i.n)) (λ k. pos 0) i.n (λ k l. zero_dual i.n k) ∙ sum_below-zero i.n in
+    omega (arith, ints)
+
+no_lower : (i : Instance) (steps : ℕ) (p : List ℤ) (z h : ℤ) → Reaches i steps p z h → z ≤ℤ h
+no_lower i steps p z h r = ⊎_elim (λ a. let b : pos 0 ≤ℤ pos (steps * least_gain) = omega (arith, ints) in omega (arith, ints)) (λ a. a.0) r
+
+-- so raised duals prove some bound
+pub raised_some : (i : Instance) (steps : ℕ) (p : List ℤ) → AreRaised i steps p → (h : ℤ) → IsHeldKarp i p h → neg_ℤ (pos scale) <ℤ h
+raised_some i steps p r h is =
+    let one = held_karp_is_one i p h r.value is r.value_is in
+    let low = no_lower i steps p r.start r.value r.reached in
+    let some = zero_value i r.start r.start_is in
+    omega (arith, ints)

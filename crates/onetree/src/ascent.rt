@@ -10,8 +10,9 @@
 //! city twice or more (or less) then. So only cities are tried that one lightest one-tree does not meet twice, in one direction, by
 //! 2^10.
 
-ghost use Rattle.std.specs.Prelude.{◌≡◌, true, false, ◌+◌, ◌*◌, ◌^◌, ◌<◌, ◌≤◌, ◌⊎◌, length, nat_abs, IfOk, OnOk, IfSome, IfNone, IsTrue, slice_set, pos, ◌+ℤ◌, ◌≤ℤ◌};
-ghost use Rattle.onetree.specs.OneTrees.{AreDuals, degree};
+ghost use Rattle.std.specs.Prelude.{◌≡◌, true, false, ◌+◌, ◌*◌, ◌^◌, ◌<◌, ◌≤◌, ◌⊎◌, length, nat_abs, IfOk, OnOk, IfSome, IfNone, IsTrue, slice_set, ℤ, pos, neg_ℤ, ◌+ℤ◌, ◌≤ℤ◌, ◌<ℤ◌};
+ghost use Rattle.onetree.specs.OneTrees.{AreDuals, IsHeldKarp, degree};
+ghost use Rattle.tspdef.specs.Bounds.{scale};
 ghost use Rattle.onetree.specs.Growing.{IsWithin};
 ghost use Rattle.onetree.specs.Ascents.{zeros, least_gain, moved, HasValue, IsStill, AreAtRest, AreRaised, Reaches};
 
@@ -40,7 +41,7 @@ struct Valued {
 
 /// Duals that so many steps raise from 0: all 0 where there are no steps. Else their Held-Karp value exceeds that of all duals 0 by 2^10
 /// units a step at least, or it is no less and no change of one dual, up or down, by a power of two from 2^10 to 2^40, within the size of
-/// duals, raises it by 2^10 or more. Mostly they are far better: a thousand steps come within a percent of the greatest value
+/// duals, raises it by 2^10 or more. It exceeds -2^20, so that it proves a bound. Mostly they are far better: a thousand steps come within a percent of the greatest value
 /// (Held and Karp 1971). It takes O(n^2) a step; where the value stays low, at most as many rounds follow as there are steps, of
 /// O(n^2) for each city that a lightest one-tree does not meet twice.
 ///
@@ -48,7 +49,8 @@ struct Valued {
 ///
 /// Where memory ran out.
 pub fn ascend(alloc: Global, instance: &Instance, steps: u32) -> Result<Vec<i64>, AllocError>
-    ensures { IfOk result (λ p. AreRaised instance.now steps p.items) }
+    ensures raised { IfOk result (λ p. AreRaised instance.now steps p.items) }
+    ensures some { IfOk result (λ p. (h : ℤ) → IsHeldKarp instance.now p.items h → neg_ℤ (pos scale) <ℤ h) }
 {
     let start = with_value(alloc, instance, zero_duals(alloc, instance)?)?;
     if steps == 0 {
