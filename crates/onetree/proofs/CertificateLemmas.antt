@@ -1,15 +1,14 @@
 -- The lines of certificates stand apart.
-use Rattle.std.proofs.Common.{◌≡◌, ◌≢◌, ℕ, zero, suc, ◌+◌, ◌-◌, ◌^◌, ◌<◌, ◌≤◌, Bool, true, false, cond, ◌&&◌, List, [], ◌∷◌, ◌++◌, length, get_or, map, drop, take, Option, Some, None, refl, sym, ap, subst, ◌∙◌, arith, append_assoc, eqb, inl, inr, decimal}
-use Rattle.std.specs.Prelude.{nat_le, nat_lt, slice_index, ℤ, pos}
-use Rattle.std.specs.List.{AllByRecursion, slice_split}
+use Rattle.std.proofs.Common.{◌≡◌, ℕ, zero, suc, ◌-◌, ◌^◌, ◌<◌, ◌≤◌, true, List, [], ◌∷◌, ◌++◌, length, drop, take, Some, None, refl, sym, ap, ◌∙◌, arith, eqb}
+use Rattle.std.specs.Prelude.{nat_le, nat_lt, slice_index, ℤ}
+use Rattle.std.specs.List.{AllByRecursion}
 use Rattle.std.proofs.lemmas.Bool.Decides.{nat_tests}
 use Rattle.std.proofs.lemmas.List.{take_all, length-drop, append-nil}
 use Rattle.std.proofs.lemmas.Fmt.{length-decimal-le}
 use Rattle.certdef.specs.Items.{Item, size_line, bound_line, city_line, line, fits, item_of}
-use Rattle.certdef.specs.Proofs.{city_item, ended, text_of}
-use Rattle.verdict.specs.Laws.{LinesAreExact}
+use Rattle.certdef.specs.Proofs.{ended}
 use Rattle.verdict.proofs.Lines.{small_if, InLine, line_plain, item_said, item_again}
-use Rattle.onetree.specs.Certificates.{Certificate, title, items, said, HasForm, StopsAt, HasNoTitle, IsNoCertificate, IsOfOtherSize}
+use Rattle.onetree.specs.Certificates.{Certificate, title, items, HasForm, StopsAt}
 use Rattle.onetree.specs.Readings.{BeginsWith}
 
 -- ---- lines end at their first line end

@@ -1,6 +1,6 @@
 -- One dual is changed: what becomes of sums, weights and values.
-use Rattle.std.proofs.Common.{◌≡◌, ◌≢◌, ℕ, zero, suc, ◌+◌, ◌-◌, ◌*◌, ◌^◌, ◌<◌, ◌≤◌, Bool, true, false, cond, eqb, ◌||◌, List, [], ◌∷◌, length, get_or, set, refl, sym, ap, subst, ◌∙◌, arith, ⊎_elim, ◌⊎◌, add-one, replicate, inr}
-use Rattle.std.specs.Prelude.{IsTrue, ℤ, pos, negsuc, neg_ℤ, nat_abs, ◌+ℤ◌, ◌-ℤ◌, ◌≤ℤ◌, ◌<ℤ◌}
+use Rattle.std.proofs.Common.{◌≡◌, ℕ, zero, suc, ◌+◌, ◌-◌, ◌*◌, ◌^◌, ◌<◌, ◌≤◌, Bool, true, false, cond, eqb, List, [], ◌∷◌, length, get_or, set, refl, sym, ap, subst, ◌∙◌, arith, ⊎_elim, ◌⊎◌, replicate, inr}
+use Rattle.std.specs.Prelude.{IsTrue, ℤ, pos, negsuc, neg_ℤ, nat_abs, ◌+ℤ◌, ◌≤ℤ◌, ◌<ℤ◌}
 use Rattle.std.specs.List.{AllByRecursion}
 use Rattle.std.proofs.lemmas.Int.{ints, to_z-of_z}
 use mir.Syntax.{w64}
@@ -9,7 +9,7 @@ use Rattle.std.proofs.lemmas.List.{get_or-set_same, get_or-set_other, length-set
 use Rattle.std.proofs.lemmas.Bool.{cases_Bool, cases_eq, cond-true, cond-false, eq-eqb, ne_eqb}
 use Rattle.std.proofs.Math.Nat.{mul-le-mul_right, pow-le-pow_right}
 use Rattle.tspdef.specs.Sums.{sum_below}
-use Rattle.tspdef.specs.Instances.{Instance, dist}
+use Rattle.tspdef.specs.Instances.{Instance}
 use Rattle.tspdef.specs.Bounds.{scale}
 use Rattle.tspdef.proofs.SumLemmas.{sum_below-same, sum_below-add, sum_below-at, sum_below-zero}
 use Rattle.onetree.specs.OneTrees.{is_end, degree, IsPair, IsOneTree, IsLightest, IsHeldKarp, weight, dual_of, reduced, AreDuals}

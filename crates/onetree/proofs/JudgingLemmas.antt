@@ -1,18 +1,16 @@
 -- What is answered about a text that was read.
-use Rattle.std.proofs.Common.{◌≡◌, ◌≢◌, ℕ, zero, suc, ◌+◌, ◌-◌, ◌^◌, ◌<◌, ◌≤◌, Bool, true, false, cond, ◌&&◌, List, [], ◌∷◌, ◌++◌, length, map, refl, sym, ap, subst, ◌∙◌, arith, append_assoc, inl, inr}
-use Rattle.std.specs.Prelude.{nat_le, ℤ, pos, ◌<ℤ◌, ◌≤ℤ◌}
+use Rattle.std.proofs.Common.{◌≡◌, ℕ, ◌+◌, ◌≤◌, true, ◌&&◌, List, [], ◌∷◌, ◌++◌, map, refl, sym, ap, subst, ◌∙◌, arith, append_assoc, inr}
+use Rattle.std.specs.Prelude.{nat_le, ℤ}
 use Rattle.std.specs.List.{AllByRecursion}
 use Rattle.std.proofs.lemmas.Bool.{and_parts}
 use Rattle.std.proofs.lemmas.List.{append-nil, length-map, map-append}
-use Rattle.tspdef.specs.Instances.{Instance, IsTourOf, length_in}
-use Rattle.tspdef.specs.Bounds.{needed}
+use Rattle.tspdef.specs.Instances.{Instance, length_in}
 use Rattle.certdef.specs.Items.{Item, size_line, bound_line, city_line, line, fits, rises}
 use Rattle.certdef.specs.Proofs.{city_item, ended}
-use Rattle.certdef.specs.Accepted.{duals_from}
 use Rattle.verdict.proofs.Values.{all_first}
 use Rattle.onetree.specs.OneTrees.{IsHeldKarp}
-use Rattle.onetree.specs.Certificates.{Certificate, title, items, said, text, HasForm, IsText, StopsAt, AreRising}
-use Rattle.onetree.specs.Readings.{HasHead, SaysDuals, StopsDuals, BeginsWith}
+use Rattle.onetree.specs.Certificates.{Certificate, title, items, said, HasForm, IsText, StopsAt, AreRising}
+use Rattle.onetree.specs.Readings.{HasHead, SaysDuals, StopsDuals}
 use Rattle.onetree.specs.Answers.{Judges, NoTourIsShorterThan, Prices}
 use Rattle.onetree.specs.declared.answer.Answer.{Answer}
 use Rattle.onetree.specs.declared.answer.Answer.TheVariants as answers

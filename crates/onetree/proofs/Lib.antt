@@ -7,3 +7,4 @@ pub mod LineLemmas
 pub mod CertificateLemmas
 pub mod DualLemmas
 pub mod JudgingLemmas
+pub mod OneAnswer

@@ -1,5 +1,5 @@
 -- Duals that are raised from 0 (Held and Karp 1971).
-use Rattle.std.specs.Prelude.{◌≡◌, ℕ, ◌+◌, ◌*◌, ◌^◌, ◌<◌, ◌≤◌, ◌⊎◌, Bool, true, false, List, replicate, slice_set, ℤ, pos, neg_ℤ, ◌+ℤ◌, ◌≤ℤ◌, ◌<ℤ◌}
+use Rattle.std.specs.Prelude.{◌≡◌, ℕ, ◌*◌, ◌^◌, ◌<◌, ◌≤◌, ◌⊎◌, Bool, true, false, List, replicate, slice_set, ℤ, pos, neg_ℤ, ◌+ℤ◌, ◌≤ℤ◌, ◌<ℤ◌}
 use Rattle.tspdef.specs.Instances.{Instance}
 use Rattle.onetree.specs.OneTrees.{AreDuals, IsHeldKarp, dual_of}
 

@@ -1,5 +1,5 @@
 -- The certificate of a Held-Karp bound: what it says, how it is spelled, and which bytes are accepted or refused as one.
-use Rattle.std.specs.Prelude.{◌≡◌, ◌≢◌, ℕ, ◌+◌, ◌≤◌, ◌⊎◌, Bool, true, cond, ◌==◌, List, [], ◌∷◌, ◌++◌, length, map, codes, decimal, ℤ, nat_abs, ◌≤ℤ◌, ◌<ℤ◌}
+use Rattle.std.specs.Prelude.{◌≡◌, ◌≢◌, ℕ, ◌+◌, ◌≤◌, ◌⊎◌, true, cond, ◌==◌, List, [], ◌∷◌, ◌++◌, length, map, codes, decimal, ℤ, nat_abs, ◌≤ℤ◌, ◌<ℤ◌}
 use Rattle.std.specs.List.{AllByRecursion}
 use Rattle.tspdef.specs.Instances.{Instance}
 use Rattle.tspdef.specs.Bounds.{needed}

@@ -3,7 +3,7 @@ use Rattle.std.specs.Prelude.{◌≡◌, ℕ, ◌+◌, ◌⊎◌, true, List, []
 use Rattle.certdef.specs.Items.{Item, line, size_line, bound_line, city_line, fits}
 use Rattle.certdef.specs.Proofs.{city_item, ended}
 use Rattle.certdef.specs.Accepted.{duals_from}
-use Rattle.onetree.specs.Certificates.{Certificate, title, said, AreRising, IsNoCertificate, IsOfOtherSize, HasForm}
+use Rattle.onetree.specs.Certificates.{title, said, AreRising, IsNoCertificate, IsOfOtherSize}
 use Rattle.onetree.specs.declared.heading.Stop.{Stop}
 use Rattle.onetree.specs.declared.heading.Stop.TheVariants as stops
 

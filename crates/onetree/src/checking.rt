@@ -1,10 +1,11 @@
 //! Certificates of Held-Karp bounds, checked.
 //!
 //! The text is held whole, and read line by line: at most a title, two lines and a line a city are of a certificate's form.
-ghost use Rattle.std.specs.Prelude.{◌≡◌, ◌≤◌, [], length, pos, ◌<◌, IfOk, IsErrOf};
+ghost use Rattle.std.specs.Prelude.{◌≡◌, ◌↔◌, ℕ, ◌≤◌, [], length, pos, ◌<◌, IfOk, IsErrOf};
 ghost use Rattle.ports.specs.Outside.{BothTell, WhereTold, Cause};
 ghost use Rattle.onetree.specs.OneTrees.{AreDuals};
 ghost use Rattle.onetree.specs.Ascents.{zeros};
+ghost use Rattle.onetree.specs.Certificates.{IsAccepted};
 ghost use Rattle.onetree.specs.Readings.{ReadsDuals};
 ghost use Rattle.onetree.specs.Answers.{Judges, NoTourIsShorterThan, Prices};
 
@@ -29,6 +30,23 @@ const SCALE: i128 = 1 << 20;
 ///
 /// `Failed` where a read failed. `NoMemory` where memory ran out: the text is held whole.
 pub fn check<D: Desk>(
+    alloc: Global,
+    instance: &Instance,
+    desk: &mut D,
+) -> Result<Answer, CheckError>
+    ensures judged { IfOk result (λ a. WhereTold (λ t. Judges instance.now t.proof_in a) (D.told desk.old)) }
+    ensures accepted { IfOk result (λ a. WhereTold (λ t. (b : ℕ) → (a ≡ Answer.Yes b) ↔ IsAccepted instance.now t.proof_in b) (D.told desk.old)) }
+    ensures shorter { IfOk result (λ a. NoTourIsShorterThan instance.now a) }
+    ensures whole { IfOk result (λ a. BothTell (λ t u. u.proof_in ≡ []) (D.told desk.old) (D.told desk.new)) }
+    ensures cause { Cause (IsErrOf result CheckError.Failed) (D.read_faults desk.old) (D.read_faults desk.new) }
+    ensures same { D.write_faults desk.new ≡ D.write_faults desk.old }
+{
+    let _few = instance.n();
+    read_and_judge(alloc, instance, desk)
+}
+
+/// The answer about the bytes that are left for the desk's proof, which are read to their end.
+fn read_and_judge<D: Desk>(
     alloc: Global,
     instance: &Instance,
     desk: &mut D,

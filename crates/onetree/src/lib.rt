@@ -5,7 +5,7 @@
 //! - [`ascend`] gives duals of a high value.
 //! - [`write`] writes the certificate of some duals and the greatest bound that they prove.
 //! - [`check`] judges a certificate.
-//! - [`tours_are_one_trees`]: the law that the bound rests on.
+//! - [`tours_are_one_trees`]: the law that the bound rests on, and [`answers_are_one`]: that bytes have one answer.
 #![tactic(auto)]
 
 mod answer;
@@ -26,7 +26,7 @@ pub use answer::{Answer, CheckError};
 pub use ascent::ascend;
 pub use checking::check;
 pub use error::WriteError;
-pub use laws::tours_are_one_trees;
+pub use laws::{answers_are_one, tours_are_one_trees};
 pub use tree::{OneTree, least_tree};
 pub use value::{held_karp, proved_length};
 pub use writing::write;

@@ -1,5 +1,4 @@
 use Rattle.std.proofs.Common.{◌≡◌, sym, subst, ◌∙◌, arith, inl, ⊎_elim}
-use Rattle.std.specs.Prelude.{ℤ}
 use Rattle.std.proofs.lemmas.Int.{ints}
 use Rattle.onetree.specs.OneTrees.{IsHeldKarp}
 use Rattle.onetree.specs.Ascents.{HasValue, Reaches}

@@ -1,4 +1,4 @@
-use Rattle.std.proofs.Common.{◌≡◌, refl, sym, subst, ◌∙◌, inl, inr, ℕ}
+use Rattle.std.proofs.Common.{refl, sym, subst, ◌∙◌, inl, inr}
 use Rattle.std.proofs.lemmas.Result.{IfOk-weaker}
 use Rattle.onetree.specs.OneTrees.{AreDuals}
 use Rattle.onetree.specs.Readings.{HasHead, SaysDuals, StopsDuals}

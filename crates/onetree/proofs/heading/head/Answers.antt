@@ -1,4 +1,4 @@
-use Rattle.std.proofs.Common.{◌≡◌, ◌++◌, refl, subst, ap, ◌∙◌, inl, inr}
+use Rattle.std.proofs.Common.{◌++◌, refl, subst, ap, ◌∙◌, inl, inr}
 use Rattle.certdef.specs.Items.{size_line}
 use Rattle.certdef.specs.Proofs.{ended}
 use Rattle.onetree.specs.Certificates.{title}

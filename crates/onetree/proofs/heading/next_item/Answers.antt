@@ -1,4 +1,4 @@
-use Rattle.std.proofs.Common.{◌^◌, ◌<◌, ◌≡◌, ◌∙◌, sym, ap, arith, Some, None, take}
+use Rattle.std.proofs.Common.{◌≡◌, ◌∙◌, sym, ap, arith, None, take}
 use Rattle.std.specs.Option.{option_map}
 use Rattle.certdef.specs.Items.{item_of}
 use Rattle.certline.specs.Said.{said}

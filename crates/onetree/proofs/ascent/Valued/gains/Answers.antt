@@ -1,7 +1,7 @@
 use Rattle.std.proofs.Common.{◌≡◌, ◌^◌, ◌<◌, length, set, sym, ap, subst, ◌∙◌, arith}
-use Rattle.std.specs.Prelude.{ℤ, nat_abs, ◌+ℤ◌}
+use Rattle.std.specs.Prelude.{nat_abs, ◌+ℤ◌}
 use Rattle.std.proofs.lemmas.Int.{ints}
-use Rattle.onetree.specs.OneTrees.{dual_of, IsHeldKarp, AreDuals}
+use Rattle.onetree.specs.OneTrees.{IsHeldKarp, AreDuals}
 use Rattle.onetree.specs.Ascents.{least_gain, moved, changed}
 use Rattle.onetree.proofs.Changes.{same_read, same_dual, duals_set, set_is_changed, set_back, still_outside, still_by_value, value_as, has_as}
 use Rattle.onetree.proofs.ascent.Valued.gains.Goals as goal

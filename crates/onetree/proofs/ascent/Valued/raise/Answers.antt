@@ -1,7 +1,6 @@
-use Rattle.std.proofs.Common.{◌≡◌, ◌<◌, ◌≤◌, ℕ, List, true, false, ap, sym, subst, ◌∙◌, arith}
-use Rattle.std.specs.Prelude.{ℤ}
-use Rattle.onetree.specs.OneTrees.{IsLightest, IsHeldKarp, AreDuals, weight, reduced, degree}
-use Rattle.onetree.specs.Ascents.{HasValue, IsStill, AreAtRest}
+use Rattle.std.proofs.Common.{◌<◌, ℕ, List, true, false, ap, sym, subst, ◌∙◌, arith}
+use Rattle.onetree.specs.OneTrees.{degree}
+use Rattle.onetree.specs.Ascents.{HasValue}
 use Rattle.onetree.proofs.Changes.{stiller, has_as, rest_as, still_side, still_as, not_true}
 use Rattle.onetree.proofs.ascent.Valued.raise.Goals as goal
 

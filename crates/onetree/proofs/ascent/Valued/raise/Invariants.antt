@@ -1,5 +1,5 @@
 use Rattle.std.proofs.Common.{◌≡◌, ℕ, ◌<◌, Bool}
-use Rattle.onetree.specs.Ascents.{HasValue, IsStill}
+use Rattle.onetree.specs.Ascents.{IsStill}
 use Rattle.onetree.proofs.ascent.Valued.raise.Given as goal
 
 abbrev pub invariant-loop-city : goal.invariant-loop-city
