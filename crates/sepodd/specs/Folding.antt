@@ -1,7 +1,8 @@
 -- Values folded at a half: for each pair the cheaper of crossing it and of having it among the pairs of an odd cut.
-use Rattle.std.specs.Prelude.{ℕ, ◌-◌, min, Bool, false, cond, not, nat_lt, ◌&&◌, List, [], ◌∷◌, map}
+use Rattle.std.specs.Prelude.{ℕ, ◌+◌, ◌-◌, min, Bool, false, cond, not, nat_lt, ◌&&◌, List, [], ◌∷◌, map}
 use Rattle.tspdef.specs.Tours.{crosses}
 use Rattle.cyc.specs.declared.frac.Entry.{Entry}
+use Rattle.cyc.specs.Frac.{value_of}
 use Rattle.maxflow.specs.Crossings.{crossing}
 
 -- one length
@@ -42,3 +43,12 @@ is_odd (e ∷ es) p = differ (crosses_over p e) (is_odd es p)
 -- what crosses a set, folded
 abbrev pub folded_crossing : List Entry → (ℕ → Bool) → ℕ
 folded_crossing es p = crossing (folded_entries es) p
+
+-- a group's number, once the groups of a kind are put into one
+abbrev pub joined : (ℕ → Bool) → ℕ → ℕ → ℕ
+joined kind to g = cond (kind g) to g
+
+-- the sum of the values of some pairs
+abbrev pub value_of_pairs : List Entry → List (ℕ × ℕ) → ℕ
+value_of_pairs es [] = 0
+value_of_pairs es (p ∷ ps) = value_of es p.0 p.1 + value_of_pairs es ps

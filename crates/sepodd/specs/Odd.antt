@@ -4,19 +4,15 @@ use Rattle.std.specs.List.{AllByRecursion}
 use Rattle.tspdef.specs.Sets.{has}
 use Rattle.tspdef.specs.Bounds.{scale}
 use Rattle.tspdef.specs.Cuts.{odd, IsOdd}
-use Rattle.cyc.specs.Frac.{Values, value_of}
+use Rattle.cyc.specs.Frac.{Values}
 use Rattle.maxflow.specs.Crossings.{crossing_weight}
 use Rattle.sepodd.specs.declared.OddCut.{OddCut}
-
--- the sum of the values of some pairs
-abbrev pub value_of_pairs : Values → List (ℕ × ℕ) → ℕ
-value_of_pairs x [] = 0
-value_of_pairs x (p ∷ ps) = value_of x.entries p.0 p.1 + value_of_pairs x ps
+use Rattle.sepodd.specs.Folding.{value_of_pairs}
 
 -- The weight of an odd cut: the values of the pairs that cross its handle, where each of its own pairs counts for what it is
 -- below one in place of its value. The cut is met where the weight is one at least, if each city has a degree of two.
 abbrev pub odd_weight : Values → List ℕ → List (ℕ × ℕ) → ℤ
-odd_weight x handle pairs = crossing_weight x (has handle) -ℤ pos (2 * value_of_pairs x pairs) +ℤ pos (scale * length pairs)
+odd_weight x handle pairs = crossing_weight x (has handle) -ℤ pos (2 * value_of_pairs x.entries pairs) +ℤ pos (scale * length pairs)
 
 -- no odd cut weighs less
 abbrev pub IsBelowAll : Values → ℕ → Type 0

@@ -1,5 +1,5 @@
 -- The best side so far, and how sides are found.
-use Rattle.std.specs.Prelude.{◌≡◌, ℕ, ◌+◌, ◌<◌, ◌≤◌, Bool, true, false, cond, not, ◌==◌, List, length, slice_index, slice_index_or, Option, Some, None}
+use Rattle.std.specs.Prelude.{◌≡◌, ◌≢◌, ℕ, ◌+◌, ◌<◌, ◌≤◌, Bool, true, false, cond, not, ◌==◌, List, length, slice_index, slice_index_or, Option, Some, None}
 use Rattle.tspdef.specs.Sets.{has}
 use Rattle.tspdef.specs.Tours.{crosses, joins}
 use Rattle.cyc.specs.declared.frac.Entry.{Entry}
@@ -26,6 +26,17 @@ pub record IsBest (x : Values) (b : Best) : Type 0 where
 abbrev pub IsBelowOdd : Values → (ℕ → ℕ) → ℕ → Type 0
 IsBelowOdd x number weight = (p : ℕ → Bool) → is_odd x.entries (λ k. p (number k)) ≡ true → weight ≤ folded_crossing x.entries (λ k. p (number k))
 
+-- no union of groups that parts two of them weighs less
+abbrev pub IsBelowParting : Values → (ℕ → ℕ) → ℕ → ℕ → ℕ → Type 0
+IsBelowParting x number s t weight = (p : ℕ → Bool) → p s ≡ true → p t ≡ false → weight ≤ folded_crossing x.entries (λ k. p (number k))
+
+-- a union of groups that parts two of them, which an even number of entries above a half cross, and than which none weighs less
+pub record IsEvenLeast (x : Values) (number : ℕ → ℕ) (s t : ℕ) (side : ℕ → Bool) : Type 0 where
+  pub holds : side s ≡ true
+  pub lacks : side t ≡ false
+  pub even : is_odd x.entries (λ k. side (number k)) ≡ false
+  pub least : IsBelowParting x number s t (folded_crossing x.entries (λ k. side (number k)))
+
 -- no set that an entry crosses weighs less, once the entry's choice is turned over
 abbrev pub IsBelowTurned : Values → Entry → ℕ → Type 0
 IsBelowTurned x e weight = (p : ℕ → Bool) → crosses p (e.u, e.v) ≡ true → weight ≤ folded_crossing x.entries p + turning e.x
@@ -41,10 +52,6 @@ pub record AreGroups (x : Values) (numbers groups : List ℕ) : Type 0 where
   pub known : (g : ℕ) → has groups g ≡ true → g < x.n
   pub odd : AreOddAmong x numbers groups
 
--- the groups of a kind are put into one
-abbrev pub joined : (ℕ → Bool) → ℕ → ℕ → ℕ
-joined kind to g = cond (kind g) to g
-
 -- the choice of a pair in a cut: as is cheaper, but where it is turned over
 abbrev pub is_turned : Option (ℕ × ℕ) → ℕ → ℕ → Bool
 is_turned None u v = false
@@ -52,3 +59,12 @@ is_turned (Some t) u v = joins u v t
 
 abbrev pub is_chosen : List Entry → Option (ℕ × ℕ) → ℕ → ℕ → Bool
 is_chosen es t u v = differ (is_over (value_of es u v)) (is_turned t u v)
+
+-- an entry of these values, of two cities and of at most one
+pub record IsKnown (x : Values) (e : Entry) : Type 0 where
+  pub u_below : e.u < x.n
+  pub v_below : e.v < x.n
+  pub apart : e.u ≢ e.v
+  pub small : e.x ≤ 1048576
+  pub listed : is_listed x.entries e.u e.v ≡ true
+  pub value : value_of x.entries e.u e.v ≡ e.x

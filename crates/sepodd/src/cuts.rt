@@ -1,13 +1,13 @@
 //! The best side as a cut.
-ghost use Rattle.std.specs.Prelude.{◌≡◌, ◌<◌, ◌≤◌, ℕ, Bool, true, ◌==◌, length, List, IfOk, pos, OnOk};
-ghost use Rattle.std.specs.List.{AllByRecursion};
+ghost use Rattle.std.specs.Prelude.{◌≡◌, ◌+◌, ◌<◌, ◌≤◌, ◌&&◌, ℕ, not, IfOk, OnOk};
+ghost use Rattle.sepodd.specs.Folding.{differ};
 ghost use Rattle.tspdef.specs.Sets.{has, IsSet};
-ghost use Rattle.tspdef.specs.Cuts as defs;
-ghost use Rattle.sepodd.specs.Odd.{odd_weight, IsRelaxed};
+ghost use Rattle.tspdef.specs.Tours.{crosses};
+ghost use Rattle.sepodd.specs.Odd.{IsRelaxed};
 ghost use Rattle.sepodd.specs.Sides.{IsBest, is_marked, is_turned, is_chosen};
-ghost use Rattle.sepodd.specs.Cuts.{IsCutOf, ArePairsTo, is_pair_of};
+ghost use Rattle.sepodd.specs.Cuts.{IsCutOf, ArePairsTo};
 
-use crate::folding::{is_marked, is_over};
+use crate::folding::{differ, is_marked, is_over};
 use crate::sides::Best;
 use cutform::{Cut, CutError};
 use cyc::{CitySet, CitySetError, Frac};
@@ -35,7 +35,7 @@ fn handle_of(alloc: Global, n: u32, side: &[bool]) -> Result<CitySet, AllocError
     requires few { n ≤ 2000 }
     ensures cities { IfOk result (λ s. s.n ≡ n) }
     ensures set { IfOk result (λ s. IsSet n s.cities) }
-    ensures members { IfOk result (λ s. (k : ℕ) → k < n → has s.cities k ≡ is_marked side.now k == is_marked side.now 0) }
+    ensures members { IfOk result (λ s. (k : ℕ) → k < n → has s.cities k ≡ not (differ (is_marked side.now k) (is_marked side.now 0))) }
 {
     let cities = cities_of(alloc, n, side)?;
     match CitySet::new(alloc, n, cities) {
@@ -48,12 +48,12 @@ fn handle_of(alloc: Global, n: u32, side: &[bool]) -> Result<CitySet, AllocError
 /// The same, as a list.
 fn cities_of(alloc: Global, n: u32, side: &[bool]) -> Result<Vec<u32>, AllocError>
     ensures set { IfOk result (λ v. IsSet n v.items) }
-    ensures members { IfOk result (λ v. (k : ℕ) → k < n → has v.items k ≡ is_marked side.now k == is_marked side.now 0) }
+    ensures members { IfOk result (λ v. (k : ℕ) → k < n → has v.items k ≡ not (differ (is_marked side.now k) (is_marked side.now 0))) }
 {
     let home = is_marked(side, 0);
     let mut cities = Vec::new(alloc);
     for k in 0..n {
-        if is_marked(side, k) == home {
+        if !differ(is_marked(side, k), home) {
             cities.push(k)?;
         }
     }
@@ -67,7 +67,7 @@ fn pairs_of(
     side: &[bool],
     turned: Option<(u32, u32)>,
 ) -> Result<Vec<(u32, u32)>, AllocError>
-    ensures pairs { IfOk result (λ v. ArePairsTo x.now (is_marked side.now) turned x.now.n v.items) }
+    ensures pairs { IfOk result (λ v. ArePairsTo x.now.n (is_marked side.now) (is_chosen x.now.entries turned) (x.now.n, 0) v.items) }
 {
     let n = x.n();
     let mut pairs = Vec::new(alloc);
@@ -86,16 +86,27 @@ fn row(
     pairs: &mut Vec<(u32, u32)>,
 ) -> Result<(), AllocError>
     requires below { u < x.now.n }
-    requires pairs { ArePairsTo x.now (is_marked side.now) turned u pairs.old.items }
-    ensures pairs { OnOk result (ArePairsTo x.now (is_marked side.now) turned (u + 1) pairs.new.items) }
+    requires pairs { ArePairsTo x.now.n (is_marked side.now) (is_chosen x.now.entries turned) (u, 0) pairs.old.items }
+    ensures pairs { OnOk result (ArePairsTo x.now.n (is_marked side.now) (is_chosen x.now.entries turned) (u + 1, 0) pairs.new.items) }
 {
-    let inside = is_marked(side, u);
-    for v in u + 1..x.n() {
-        if is_marked(side, v) != inside && is_over(x.x(u, v)) != is_turned(turned, u, v) {
+    let n = x.n();
+    for v in u + 1..n {
+        if is_wanted(x, side, turned, u, v) {
             pairs.push((u, v))?;
         }
     }
     Ok(())
+}
+
+/// Whether a pair crosses the side and is chosen.
+fn is_wanted(x: &Frac, side: &[bool], turned: Option<(u32, u32)>, u: u32, v: u32) -> bool
+    requires u_below { u < x.now.n }
+    requires v_below { v < x.now.n }
+    ensures { result ≡ (crosses (is_marked side.now) (u, v) && is_chosen x.now.entries turned u v) }
+{
+    let crosses = differ(is_marked(side, u), is_marked(side, v));
+    let chosen = differ(is_over(x.x(u, v)), is_turned(turned, u, v));
+    crosses && chosen
 }
 
 /// Whether the pair is the one that is turned over.

@@ -3,7 +3,7 @@ ghost use Rattle.std.specs.Prelude.{◌≡◌, ◌<◌, ℕ, Bool, length, slice
 ghost use Rattle.tspdef.specs.Sets.{has};
 ghost use Rattle.sepodd.specs.Sides.{is_marked, IsBest};
 
-use crate::SCALE;
+use crate::{SCALE, folding};
 use cyc::{CitySet, Frac};
 use std::alloc::{AllocError, Global};
 
@@ -28,19 +28,7 @@ pub fn none(alloc: Global, x: &Frac) -> Result<Best, AllocError>
     })
 }
 
-/// The marks of the cities whose group is in the set.
-pub fn marks_of(alloc: Global, numbers: &[u32], set: &CitySet) -> Result<Vec<bool>, AllocError>
-    ensures size { IfOk result (λ v. length v.items ≡ length numbers.now) }
-    ensures marks { IfOk result (λ v. (k : ℕ) → k < length numbers.now → is_marked v.items k ≡ has set.now.cities (slice_index numbers.now k)) }
-{
-    let mut marks = Vec::new(alloc);
-    for number in numbers {
-        marks.push(set.contains(*number))?;
-    }
-    Ok(marks)
-}
-
-/// The marks of the cities of a set.
+/// The marks of the members of a set.
 pub fn members_of(alloc: Global, n: u32, set: &CitySet) -> Result<Vec<bool>, AllocError>
     ensures size { IfOk result (λ v. length v.items ≡ n) }
     ensures marks { IfOk result (λ v. (k : ℕ) → k < n → is_marked v.items k ≡ has set.now.cities k) }
@@ -48,6 +36,18 @@ pub fn members_of(alloc: Global, n: u32, set: &CitySet) -> Result<Vec<bool>, All
     let mut marks = Vec::new(alloc);
     for k in 0..n {
         marks.push(set.contains(k))?;
+    }
+    Ok(marks)
+}
+
+/// The marks of the cities whose group is marked.
+pub fn marks_of(alloc: Global, numbers: &[u32], groups: &[bool]) -> Result<Vec<bool>, AllocError>
+    ensures size { IfOk result (λ v. length v.items ≡ length numbers.now) }
+    ensures marks { IfOk result (λ v. (k : ℕ) → k < length numbers.now → is_marked v.items k ≡ is_marked groups.now (slice_index numbers.now k)) }
+{
+    let mut marks = Vec::new(alloc);
+    for k in 0..numbers.len() {
+        marks.push(folding::is_marked(groups, numbers[k]))?;
     }
     Ok(marks)
 }

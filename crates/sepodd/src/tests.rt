@@ -95,7 +95,10 @@ fn add_tour(table: &mut [u32], n: u32, seed: u64, x: u32) -> u64 {
     }
     for k in 0..n {
         let a = order.get(k as usize).copied().unwrap_or(0);
-        let b = order.get((k + 1) as usize % n as usize).copied().unwrap_or(0);
+        let b = order
+            .get((k + 1) as usize % n as usize)
+            .copied()
+            .unwrap_or(0);
         if let Some(cell) = table.get_mut((a.min(b) * 9 + a.max(b)) as usize) {
             *cell = cell.wrapping_add(x);
         }

@@ -1,11 +1,9 @@
 //! The least sets that a pair crosses, with its choice turned over.
-ghost use Rattle.std.specs.Prelude.{◌≡◌, ◌<◌, ◌≤◌, ℕ, length, IfOk};
+ghost use Rattle.std.specs.Prelude.{◌≡◌, ◌≤◌, ℕ, Bool, IfOk};
 ghost use Rattle.std.specs.List.{AllByRecursion};
-ghost use Rattle.cyc.specs.declared.frac.Entry.{Entry};
-ghost use Rattle.cyc.specs.Frac.{value_of, is_listed};
 ghost use Rattle.maxflow.specs.Crossings.{crossing};
 ghost use Rattle.sepodd.specs.Folding.{folded_entries, folded_crossing};
-ghost use Rattle.sepodd.specs.Sides.{IsBest, IsBelowTurned};
+ghost use Rattle.sepodd.specs.Sides.{IsBest, IsBelowTurned, IsKnown};
 
 use crate::folding;
 use crate::sides::{self, Best};
@@ -16,12 +14,7 @@ use std::alloc::{AllocError, Global};
 
 /// The best so far, or the least side of all with the choice of one crossing pair turned over. A flow is given up where it reaches what
 /// the best leaves for it.
-pub fn turned_sides(
-    alloc: Global,
-    x: &Frac,
-    folded: &Frac,
-    best: Best,
-) -> Result<Best, AllocError>
+pub fn turned_sides(alloc: Global, x: &Frac, folded: &Frac, best: Best) -> Result<Best, AllocError>
     requires size { folded.now.n ≡ x.now.n }
     requires entries { folded.now.entries ≡ folded_entries x.now.entries }
     requires small { AllByRecursion (λ e. e.x ≤ 1048576) x.now.entries }
@@ -31,9 +24,31 @@ pub fn turned_sides(
     ensures least { IfOk result (λ b. AllByRecursion (λ e. IsBelowTurned x.now e b.weight) x.now.entries) }
 {
     let network = Network::of(alloc, folded)?;
+    let best = turned_of(alloc, x, &network, x.entries(), best)?;
+    Ok(best)
+}
+
+/// The same for some of the entries.
+fn turned_of(
+    alloc: Global,
+    x: &Frac,
+    network: &Network,
+    entries: &[Entry],
+    best: Best,
+) -> Result<Best, AllocError>
+    requires size { network.now.n ≡ x.now.n }
+    requires weights { (p : ℕ → Bool) → crossing network.now.entries p ≡ folded_crossing x.now.entries p }
+    requires known { AllByRecursion (IsKnown x.now) entries.now }
+    requires best { IsBest x.now best }
+    ensures best { IfOk result (λ b. IsBest x.now b) }
+    ensures no_more { IfOk result (λ b. b.weight ≤ best.weight) }
+    ensures least { IfOk result (λ b. AllByRecursion (λ e. IsBelowTurned x.now e b.weight) entries.now) }
+{
     let mut best = best;
-    for entry in x.entries() {
-        best = turned_at(alloc, x, &network, *entry, best)?;
+    let mut rest = entries;
+    while let Some((entry, more)) = rest.split_first() {
+        best = turned_at(alloc, x, network, *entry, best)?;
+        rest = more;
     }
     Ok(best)
 }
@@ -48,12 +63,7 @@ fn turned_at(
 ) -> Result<Best, AllocError>
     requires size { network.now.n ≡ x.now.n }
     requires weights { (p : ℕ → Bool) → crossing network.now.entries p ≡ folded_crossing x.now.entries p }
-    requires small { entry.x ≤ 1048576 }
-    requires listed { is_listed x.now.entries entry.u entry.v ≡ true }
-    requires value { value_of x.now.entries entry.u entry.v ≡ entry.x }
-    requires u_below { entry.u < x.now.n }
-    requires v_below { entry.v < x.now.n }
-    requires apart { entry.u ≢ entry.v }
+    requires known { IsKnown x.now entry }
     requires best { IsBest x.now best }
     ensures best { IfOk result (λ b. IsBest x.now b) }
     ensures no_more { IfOk result (λ b. b.weight ≤ best.weight) }
