@@ -1,16 +1,19 @@
 -- The least side that a pair crosses, found from one of its ends.
-use Rattle.std.proofs.Common.{◌≡◌, ℕ, ◌+◌, ◌-◌, ◌<◌, ◌≤◌, Bool, true, false, not, List, [], ◌∷◌, refl, sym, ap, ◌∙◌, subst, arith, ⊎_elim}
+use Rattle.std.proofs.Common.{◌≡◌, ℕ, ◌+◌, ◌-◌, ◌<◌, ◌≤◌, Bool, true, false, not, List, [], ◌∷◌, pos, refl, sym, ap, ◌∙◌, subst, arith, ⊎_elim}
 use Rattle.std.specs.List.{AllByRecursion}
 use Rattle.std.proofs.lemmas.Bool.{cases_Bool, cases_eq, false≢true}
 use Rattle.tspdef.specs.Sets.{has}
 use Rattle.tspdef.specs.Tours.{crosses}
 use Rattle.cyc.specs.declared.frac.Entry.{Entry}
-use Rattle.cyc.specs.Frac.{Values}
-use Rattle.maxflow.specs.Crossings.{crossing}
+use Rattle.cyc.specs.Frac.{Values, AreEntries}
+use Rattle.std.proofs.lemmas.Int.{ints}
+use Rattle.maxflow.proofs.CrossingLemmas.{weight_by_entries}
+use Rattle.maxflow.specs.Crossings.{crossing_weight, crossing}
 use Rattle.maxflow.specs.Flows.{is_stop, LacksStops, IsBelowAll}
 use Rattle.sepodd.specs.Folding.{differ, is_odd, folded_entries, folded_crossing, turning}
-use Rattle.sepodd.specs.Sides.{IsBelowTurned}
-use Rattle.sepodd.proofs.SubmodularLemmas.{crossing_not}
+use Rattle.sepodd.specs.Sides.{IsBest, IsBelowTurned, IsKnown}
+use Rattle.sepodd.specs.declared.sides.Best.{Best}
+use Rattle.sepodd.proofs.SubmodularLemmas.{crossing_not, folded_are_entries}
 
 not_true : (a : Bool) → a ≡ true → not a ≡ false
 not_true true h = refl
@@ -58,3 +61,36 @@ turned_dear x e weight l p c = omega (arith, l)
 pub turned_less : (x : Values) (es : List Entry) (old new : ℕ) → new ≤ old → AllByRecursion (λ e. IsBelowTurned x e old) es → AllByRecursion (λ e. IsBelowTurned x e new) es
 turned_less x [] old new l a = tt
 turned_less x (e ∷ es) old new l a = (λ p c. let z = a.0 p c in omega (arith, z, l), turned_less x es old new l a.1)
+
+-- the network's crossing weights are those of the folded entries
+pub network_weight : (x folded w : Values) → folded.n ≡ x.n → folded.entries ≡ folded_entries x.entries → AreEntries x.n x.entries
+    → ((p : ℕ → Bool) → crossing_weight folded p ≡ pos (crossing w.entries p)) → (p : ℕ → Bool) → crossing w.entries p ≡ folded_crossing x.entries p
+network_weight x folded w size entries all weights p =
+    let a = weights p in
+    let b = weight_by_entries folded p (subst (λ n. AreEntries n folded.entries) (sym size) (subst (λ es. AreEntries x.n es) (sym entries) (folded_are_entries x.n x.entries all))) in
+    let c : crossing folded.entries p ≡ folded_crossing x.entries p = ap (λ es. crossing es p) entries in
+    omega (arith, ints, a, b, c)
+
+-- what was found of the entries so far, where the rest is to come
+pub record AreTurnedSoFar (x : Values) (entries rest : List Entry) (start : ℕ) (b : Best) : Type 0 where
+  pub best : IsBest x b
+  pub no_more : b.weight ≤ start
+  pub known : AllByRecursion (IsKnown x) rest
+  pub least : (w : ℕ) → w ≤ b.weight → AllByRecursion (λ e. IsBelowTurned x e w) rest → AllByRecursion (λ e. IsBelowTurned x e w) entries
+
+pub turned_next : (x : Values) (entries more : List Entry) (e : Entry) (start : ℕ) (old new : Best) → AreTurnedSoFar x entries (e ∷ more) start old → IsBest x new → new.weight ≤ old.weight
+    → IsBelowTurned x e new.weight → AreTurnedSoFar x entries more start new
+turned_next x entries more e start old new far best less below =
+    let n = far.no_more in
+    record {
+      best = best;
+      no_more = omega (arith, n, less);
+      known = far.known.1;
+      least = λ w l a. far.least w (omega (arith, l, less)) ((λ p c. let z = below p c in omega (arith, z, l)), a);
+    }
+
+pub turned_start : (x : Values) (entries : List Entry) (b : Best) → IsBest x b → AllByRecursion (IsKnown x) entries → AreTurnedSoFar x entries entries b.weight b
+turned_start x entries b best known = record { best = best; no_more = omega arith; known = known; least = λ w l a. a }
+
+pub turned_end : (x : Values) (entries : List Entry) (start : ℕ) (b : Best) → AreTurnedSoFar x entries [] start b → AllByRecursion (λ e. IsBelowTurned x e b.weight) entries
+turned_end x entries start b far = far.least b.weight (omega arith) tt

@@ -29,6 +29,7 @@ pub fn turned_sides(alloc: Global, x: &Frac, folded: &Frac, best: Best) -> Resul
 }
 
 /// The same for some of the entries.
+#[tactic(auto, using(crate::proofs::TurningLemmas::turned_start))]
 fn turned_of(
     alloc: Global,
     x: &Frac,
