@@ -1,5 +1,6 @@
 //! The best side as a cut.
 ghost use Rattle.std.specs.Prelude.{◌≡◌, ◌+◌, ◌<◌, ◌≤◌, ◌&&◌, ℕ, not, IfOk, OnOk};
+ghost use Rattle.cutform.specs.declared.error.CutError.TheVariants as CutError;
 ghost use Rattle.sepodd.specs.Folding.{differ};
 ghost use Rattle.tspdef.specs.Sets.{has, IsSet};
 ghost use Rattle.tspdef.specs.Tours.{crosses};
@@ -20,13 +21,21 @@ pub fn cut_of(alloc: Global, x: &Frac, best: &Best) -> Result<Cut, AllocError>
     requires light { best.now.weight < 1048576 }
     ensures { IfOk result (λ c. IsCutOf x.now best.now c) }
 {
-    let handle = handle_of(alloc, x.n(), &best.side)?;
+    let n = x.n();
+    let _entries = x.entries();
+    let handle = handle_of(alloc, n, &best.side)?;
     let pairs = pairs_of(alloc, x, &best.side, best.turned)?;
     match Cut::odd(alloc, handle, pairs) {
         Ok(cut) => Ok(cut),
-        Err(CutError::NoMemory) => Err(AllocError),
-        Err(_) => unreachable!(),
+        Err(error) => Err(no_memory(error)),
     }
+}
+
+/// Memory ran out: the one reason that is left.
+fn no_memory(_error: CutError) -> AllocError
+    requires { _error ≡ CutError.NoMemory }
+{
+    AllocError
 }
 
 /// The cities that are marked as city 0 is.

@@ -44,6 +44,7 @@ pub fn least_odd(alloc: Global, x: &Frac) -> Result<Option<OddCut>, AllocError>
     requires { IsRelaxed x.now }
     ensures { IfOk result (λ o. MatchOption o (IsBelowAll x.now one) (IsLeastOdd x.now)) }
 {
+    let _entries = x.entries();
     let best = sides::none(alloc, x)?;
     let folded = folding::folded(alloc, x)?;
     let best = uncrossing::odd_sides(alloc, x, &folded, best)?;

@@ -1,4 +1,4 @@
-use Rattle.std.proofs.Common.{◌+◌, not, sym, ap, ◌∙◌, subst}
+use Rattle.std.proofs.Common.{◌+◌, ℕ, Bool, not, sym, ap, ◌∙◌, subst}
 use Rattle.maxflow.proofs.SideLemmas.{AreThoseBelow, those_push, those_skip}
 use Rattle.sepodd.specs.Folding.{differ}
 use Rattle.sepodd.specs.Sides.{is_marked}
@@ -10,7 +10,7 @@ loop-k-preserved c =
     let old = c.loop-k.cities.items in
     let k = c.loop-k.k in
     let side = c.args.side.now in
-    let in_it = λ i. not (differ (is_marked side i) (is_marked side 0)) in
+    let in_it : ℕ → Bool = λ i. not (differ (is_marked side i) (is_marked side 0)) in
     let here = c.differ.ensures ∙ ap (λ b. differ b c.is_marked-home.result) c.is_marked.ensures ∙ ap (λ b. differ (is_marked side k) b) c.is_marked-home.ensures in
     elim c.if-not-differ.branch [
       | then-not-differ+in_ok-push w ↦
