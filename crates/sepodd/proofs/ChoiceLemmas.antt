@@ -1,17 +1,17 @@
 -- What an odd cut weighs, entry by entry: each crossing entry counts as it is chosen.
-use Rattle.std.proofs.Common.{◌≡◌, ℕ, zero, suc, ◌+◌, ◌-◌, ◌*◌, ◌%◌, ◌<◌, ◌≤◌, min, Bool, true, false, not, cond, ◌&&◌, ◌||◌, List, [], ◌∷◌, length, refl, sym, ap, ◌∙◌, subst, arith, ⊎_elim, ◌⊎◌, inl, inr, nat_lt}
+use Rattle.std.proofs.Common.{◌≡◌, ℕ, ◌+◌, ◌-◌, ◌*◌, ◌%◌, ◌<◌, ◌≤◌, Bool, true, false, not, cond, ◌&&◌, ◌||◌, List, [], ◌∷◌, length, refl, sym, ap, ◌∙◌, arith, ⊎_elim, inl, inr}
 use Rattle.std.specs.List.{AllByRecursion}
-use Rattle.std.proofs.lemmas.Bool.{cases_Bool, false≢true, cond-true, cond-false, ltb-true, ltb-false, or_parts, or_left, false_from_ne_true}
+use Rattle.std.proofs.lemmas.Bool.{cases_Bool, false≢true, cond-true, cond-false, ltb-true, ltb-false, or_parts, false_from_ne_true}
 use Rattle.std.proofs.lemmas.Bool.Decides.{nat_tests}
 use Rattle.std.proofs.lemmas.List.Sums.{sum_by-cons}
 use Rattle.tspdef.specs.Tours.{joins, crosses, has_step}
 use Rattle.tspdef.specs.Fixed.{IsPairBefore, PairsRise, AreRisingPairs}
 use Rattle.tspdef.proofs.Steps.{joins_is, has_step_at, AreDistinctSteps}
 use Rattle.cyc.specs.declared.frac.Entry.{Entry}
-use Rattle.cyc.specs.Frac.{value_of, is_listed, IsEntry, ArePairsDistinct}
+use Rattle.cyc.specs.Frac.{value_of, is_listed, ArePairsDistinct}
 use Rattle.cyc.proofs.EntryLemmas.{listed_same, value_unlisted}
 use Rattle.maxflow.specs.Crossings.{crossing_at, crossing}
-use Rattle.sepodd.specs.Folding.{one, folded, folded_entry, folded_entries, is_over, turning, differ, crosses_over, is_odd, folded_crossing, value_of_pairs}
+use Rattle.sepodd.specs.Folding.{one, folded, folded_entry, folded_entries, is_over, turning, differ, is_odd, folded_crossing, value_of_pairs}
 
 -- no value is above one
 abbrev pub AreSmall : List Entry → Type 0

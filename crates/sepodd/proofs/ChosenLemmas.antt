@@ -1,15 +1,14 @@
 -- What the best side weighs as a cut: entries are chosen as is cheaper, and one may be turned over.
-use Rattle.std.proofs.Common.{◌≡◌, ℕ, ◌+◌, ◌*◌, ◌<◌, ◌≤◌, Bool, true, false, not, cond, ◌&&◌, ◌||◌, List, [], ◌∷◌, length, refl, sym, ap, ◌∙◌, subst, arith, ⊎_elim, Option, Some, None}
+use Rattle.std.proofs.Common.{◌≡◌, ℕ, ◌+◌, ◌≤◌, Bool, true, false, not, cond, ◌&&◌, ◌||◌, List, [], ◌∷◌, refl, sym, ap, ◌∙◌, arith, ⊎_elim}
 use Rattle.std.specs.List.{AllByRecursion}
 use Rattle.std.proofs.lemmas.Bool.{cases_Bool, false≢true, cond-true, cond-false, or_parts}
 use Rattle.tspdef.specs.Tours.{joins, crosses}
 use Rattle.cyc.specs.declared.frac.Entry.{Entry}
 use Rattle.cyc.specs.Frac.{value_of, is_listed, ArePairsDistinct}
 use Rattle.cyc.proofs.EntryLemmas.{listed_same}
-use Rattle.maxflow.specs.Crossings.{crossing_at}
-use Rattle.sepodd.specs.Folding.{folded_entry, is_over, turning, differ, is_odd, folded_crossing}
-use Rattle.sepodd.proofs.ParityLemmas.{differ_none, differ_assoc}
-use Rattle.sepodd.proofs.ChoiceLemmas.{AreSmall, cost_at, cost, count, chosen_odd, joins_turn, crosses_joined, folded_more, as_cheaper, as_turned}
+use Rattle.sepodd.specs.Folding.{is_over, turning, differ, is_odd, folded_crossing}
+use Rattle.sepodd.proofs.ParityLemmas.{differ_none}
+use Rattle.sepodd.proofs.ChoiceLemmas.{AreSmall, cost, count, chosen_odd, joins_turn, crosses_joined, folded_more, as_cheaper, as_turned}
 use Rattle.sepodd.proofs.DegreeLemmas.{overs}
 
 -- the choice at each crossing entry

@@ -1,9 +1,8 @@
 -- The best side, its pairs and its handle are an odd cut of its weight.
-use Rattle.std.proofs.Common.{◌≡◌, ℕ, ◌+◌, ◌*◌, ◌%◌, ◌^◌, ◌<◌, ◌≤◌, Bool, true, false, not, cond, ◌&&◌, ◌||◌, ◌==◌, List, [], ◌∷◌, length, pos, refl, sym, ap, ◌∙◌, subst, arith, ⊎_elim, ◌⊎◌, inl, inr, Option, Some, None}
-use Rattle.std.specs.Prelude.{◌≤ℤ◌}
+use Rattle.std.proofs.Common.{◌≡◌, ℕ, ◌+◌, ◌<◌, ◌≤◌, Bool, true, false, not, cond, ◌&&◌, ◌||◌, ◌==◌, List, [], ◌∷◌, length, pos, refl, sym, ap, ◌∙◌, subst, arith, ⊎_elim, ◌⊎◌, inl, inr, Option, Some, None}
 use Rattle.std.specs.List.{AllByRecursion}
 use Rattle.std.proofs.lemmas.Int.{ints}
-use Rattle.std.proofs.lemmas.Bool.{cases_Bool, cases_lt, false≢true, cond-true, cond-false, false_from_ne_true, le-ltb}
+use Rattle.std.proofs.lemmas.Bool.{cases_Bool, cases_lt, false≢true, cond-true}
 use Rattle.tspdef.specs.Sets.{has, IsSet, IsProper}
 use Rattle.tspdef.specs.Tours.{joins, crosses, has_step}
 use Rattle.tspdef.specs.Cuts.{IsOdd}
@@ -15,7 +14,7 @@ use Rattle.cyc.proofs.ListLemmas.{or_comm}
 use Rattle.maxflow.specs.Crossings.{crossing}
 use Rattle.maxflow.proofs.CrossingLemmas.{weight_by_entries}
 use Rattle.maxflow.proofs.SideLemmas.{proper_from}
-use Rattle.sepodd.specs.Folding.{one, is_over, differ, is_odd, folded_crossing, turning}
+use Rattle.sepodd.specs.Folding.{is_over, differ}
 use Rattle.sepodd.specs.Odd.{odd_weight, IsRelaxed}
 use Rattle.sepodd.specs.Sides.{HasWeight, is_turned, is_chosen}
 use Rattle.sepodd.specs.Cuts.{ArePairsTo}
@@ -115,9 +114,10 @@ crosses_all : (p q : ℕ → Bool) (n : ℕ) (ps : List (ℕ × ℕ)) → ((k : 
 crosses_all p q n [] e b c = tt
 crosses_all p q n (f ∷ ps) e b c =
     let l = b.0.0 in
-    let m = b.0.1 in
-    (ap (λ (i : Bool). differ i (q f.1)) (e f.0 (omega (arith, l, m))) ∙ ap (λ (i : Bool). differ (not (differ (p f.0) (p 0))) i) (e f.1 m) ∙ side_case (p f.0) (p f.1) (p 0) ∙ c.0,
-      crosses_all p q n ps e b.1 c.1)
+    let m = b.0.1 in (
+      ap (λ (i : Bool). differ i (q f.1)) (e f.0 (omega (arith, l, m))) ∙ ap (λ (i : Bool). differ (not (differ (p f.0) (p 0))) i) (e f.1 m) ∙ side_case (p f.0) (p f.1) (p 0) ∙ c.0,
+      crosses_all p q n ps e b.1 c.1,
+    )
 
 -- the handle of a side: the cities that are where city 0 is
 pub record IsHandle (n : ℕ) (p : ℕ → Bool) (h : List ℕ) : Type 0 where
@@ -160,7 +160,8 @@ module _ (x : Values) (t : Option (ℕ × ℕ)) (p : ℕ → Bool) (ps : List (�
   choice_of [] a k = tt
   choice_of (e ∷ es) a k = (
     λ c. step_is e.u e.v a.0.apart a.0.u_below a.0.v_below c ∙ ap (λ (w : ℕ). differ (is_over w) (is_turned t e.u e.v)) k.0.value,
-    choice_of es a.1 k.1)
+    choice_of es a.1 k.1,
+  )
 
 -- what the pairs of a side weigh, that they are odd in number, and not too many
 record IsWeighed (es : List Entry) (p : ℕ → Bool) (ps : List (ℕ × ℕ)) (weight : ℕ) : Type 0 where
@@ -188,6 +189,7 @@ weighed x p ps weight a s None pairs w =
     some_of : Option (ℕ × ℕ) → Bool
     some_of None = false
     some_of (Some f) = true
+
     none_some : (f : ℕ × ℕ) → None ≡ Some f → ⊥
     none_some f e = false≢true (ap some_of e)
 weighed x p ps weight a s (Some f) pairs w =

@@ -1,13 +1,13 @@
 -- Odd sets as unions of fewer groups: two groups that need not be parted, or all groups of an even set, become one.
-use Rattle.std.proofs.Common.{◌≡◌, ℕ, ◌+◌, ◌<◌, ◌≤◌, Bool, true, false, not, cond, ◌==◌, List, refl, sym, ap, ◌∙◌, subst, arith, ⊎_elim, ◌⊎◌, inl, inr}
+use Rattle.std.proofs.Common.{◌≡◌, ℕ, ◌<◌, ◌≤◌, Bool, true, false, not, ◌==◌, List, refl, sym, ap, ◌∙◌, subst, arith, ⊎_elim, ◌⊎◌, inl, inr}
 use Rattle.std.specs.List.{AllByRecursion}
 use Rattle.std.proofs.lemmas.Bool.{cases_Bool, cases_eq, false≢true, cond-true, cond-false, eq-eqb, ne_eqb}
 use Rattle.cyc.specs.declared.frac.Entry.{Entry}
 use Rattle.cyc.specs.Frac.{IsEntry}
 use Rattle.sepodd.specs.Folding.{is_odd, folded_entries, folded_crossing, joined}
-use Rattle.sepodd.proofs.ParityLemmas.{odd_same, odd_none, odd_not}
+use Rattle.sepodd.proofs.ParityLemmas.{odd_same, odd_none}
 use Rattle.sepodd.proofs.SubmodularLemmas.{crossing_not, crossing_within, each_folded}
-use Rattle.sepodd.proofs.UncrossingLemmas.{odd_union, weight_union, IsUncrossed, uncross}
+use Rattle.sepodd.proofs.UncrossingLemmas.{uncross}
 
 module _ (n : ℕ) (es : List Entry) (all : AllByRecursion (IsEntry n) es) where
   -- equal unions of other groups

@@ -1,5 +1,5 @@
 -- Entries and what is told of their pairs.
-use Rattle.std.proofs.Common.{◌≡◌, ℕ, ◌<◌, ◌≤◌, Bool, true, false, cond, ◌||◌, List, [], ◌∷◌, refl, sym, ap, ◌∙◌, subst, ⊎_elim}
+use Rattle.std.proofs.Common.{◌≡◌, ℕ, true, false, List, [], ◌∷◌, sym, ◌∙◌, ⊎_elim}
 use Rattle.std.specs.List.{AllByRecursion}
 use Rattle.std.proofs.lemmas.Bool.{cases_Bool, false≢true, cond-true, cond-false, or_left, or_right}
 use Rattle.std.proofs.lemmas.Bool.Decides.{nat_tests}
@@ -21,20 +21,26 @@ pub record IsTold (es : List Entry) (e : Entry) : Type 0 where
 
 told_more : (f : Entry) (es rest : List Entry) → is_listed es f.u f.v ≡ false → AllByRecursion (IsTold es) rest → AllByRecursion (IsTold (f ∷ es)) rest
 told_more f es [] fresh a = tt
-told_more f es (e ∷ rest) fresh a = (⊎_elim
-    (λ (j : joins e.u e.v (f.u, f.v) ≡ true). absurd (false≢true (sym (listed_same es e.u e.v f.u f.v j ∙ fresh) ∙ a.0.listed)))
-    (λ (j : joins e.u e.v (f.u, f.v) ≡ false). record {
-      listed = or_right (joins e.u e.v (f.u, f.v)) (is_listed es e.u e.v) a.0.listed;
-      value = cond-false (joins e.u e.v (f.u, f.v)) f.x (value_of es e.u e.v) j ∙ a.0.value;
-    })
-    (cases_Bool (joins e.u e.v (f.u, f.v))), told_more f es rest fresh a.1)
+told_more f es (e ∷ rest) fresh a = (
+  ⊎_elim
+      (λ (j : joins e.u e.v (f.u, f.v) ≡ true). absurd (false≢true (sym (listed_same es e.u e.v f.u f.v j ∙ fresh) ∙ a.0.listed)))
+      (λ (j : joins e.u e.v (f.u, f.v) ≡ false). record {
+        listed = or_right (joins e.u e.v (f.u, f.v)) (is_listed es e.u e.v) a.0.listed;
+        value = cond-false (joins e.u e.v (f.u, f.v)) f.x (value_of es e.u e.v) j ∙ a.0.value;
+      })
+      (cases_Bool (joins e.u e.v (f.u, f.v))),
+  told_more f es rest fresh a.1,
+)
 
 pub all_told : (es : List Entry) → ArePairsDistinct es → AllByRecursion (IsTold es) es
 all_told [] d = tt
-all_told (e ∷ es) d = (record {
-  listed = or_left (joins e.u e.v (e.u, e.v)) (is_listed es e.u e.v) (joins_self e.u e.v);
-  value = cond-true (joins e.u e.v (e.u, e.v)) e.x (value_of es e.u e.v) (joins_self e.u e.v);
-}, told_more e es es d.0 (all_told es d.1))
+all_told (e ∷ es) d = (
+  record {
+    listed = or_left (joins e.u e.v (e.u, e.v)) (is_listed es e.u e.v) (joins_self e.u e.v);
+    value = cond-true (joins e.u e.v (e.u, e.v)) e.x (value_of es e.u e.v) (joins_self e.u e.v);
+  },
+  told_more e es es d.0 (all_told es d.1),
+)
 
 known_from : (x : Values) (es : List Entry) → AllByRecursion (IsEntry x.n) es → AreSmall es → AllByRecursion (IsTold x.entries) es → AllByRecursion (IsKnown x) es
 known_from x [] a s t = tt

@@ -1,22 +1,19 @@
 -- No odd cut weighs less than the best of the odd sides and of those with a pair turned over (Letchford, Reinelt and Theis 2008).
-use Rattle.std.proofs.Common.{◌≡◌, ℕ, ◌+◌, ◌*◌, ◌%◌, ◌<◌, ◌≤◌, Bool, true, false, List, [], ◌∷◌, length, pos, refl, sym, ap, ◌∙◌, subst, arith, ⊎_elim}
-use Rattle.std.specs.Prelude.{◌+ℤ◌, ◌-ℤ◌, ◌≤ℤ◌}
+use Rattle.std.proofs.Common.{◌≡◌, ℕ, ◌+◌, ◌*◌, ◌<◌, ◌≤◌, Bool, true, false, List, [], ◌∷◌, pos, refl, sym, ap, ◌∙◌, arith, ⊎_elim}
 use Rattle.std.specs.List.{AllByRecursion}
 use Rattle.std.proofs.lemmas.Int.{ints}
 use Rattle.std.proofs.lemmas.Bool.{cases_Bool, cases_eq}
 use Rattle.tspdef.specs.Sets.{has}
 use Rattle.tspdef.specs.Tours.{crosses, has_step}
 use Rattle.tspdef.specs.Fixed.{AreRisingPairs}
-use Rattle.tspdef.specs.Bounds.{scale}
-use Rattle.tspdef.specs.Cuts.{IsOdd}
 use Rattle.cyc.specs.declared.frac.Entry.{Entry}
 use Rattle.cyc.specs.Frac.{Values, AreEntries}
-use Rattle.maxflow.specs.Crossings.{crossing_weight, crossing}
+use Rattle.maxflow.specs.Crossings.{crossing}
 use Rattle.maxflow.proofs.CrossingLemmas.{weight_by_entries}
-use Rattle.sepodd.specs.Folding.{one, differ, is_odd, folded_crossing, turning, value_of_pairs}
+use Rattle.sepodd.specs.Folding.{one, differ, is_odd, folded_crossing, turning}
 use Rattle.sepodd.specs.Odd.{odd_weight, IsBelowAll}
 use Rattle.sepodd.specs.Sides.{IsBelowOdd, IsBelowTurned}
-use Rattle.sepodd.proofs.ChoiceLemmas.{AreSmall, cost, count, chosen_odd, unlisted, pairs_cost, pairs_count, rising_are_distinct, odd_by_count, folded_less, turned_bound}
+use Rattle.sepodd.proofs.ChoiceLemmas.{AreSmall, cost, chosen_odd, unlisted, pairs_cost, pairs_count, rising_are_distinct, odd_by_count, folded_less, turned_bound}
 
 -- the weight of an odd cut, entry by entry
 pub weight_is_cost : (x : Values) (handle : List ℕ) (ps : List (ℕ × ℕ)) (p : ℕ → Bool) → AreEntries x.n x.entries → AreSmall x.entries
@@ -48,11 +45,11 @@ below_all x w a s most odd turned handle ps is =
     let number = is.odd in
     let chosen : chosen_odd es p (has_step ps) ≡ true = odd_by_count es p (has_step ps) (omega (arith, n, none, number)) in
     let less : w ≤ cost es p (has_step ps) = ⊎_elim
-        (λ (o : is_odd es p ≡ true). let z = odd p o in let y = folded_less es p (has_step ps) in omega (arith, z, y))
-        (λ (o : is_odd es p ≡ false).
-        let z = turned_bound es p (has_step ps) w (folded_crossing es p) s (some_turned es p w (folded_crossing es p) refl es turned) (ap (λ b. differ b (is_odd es p)) chosen ∙ turned_differ (is_odd es p) o) in
-        omega (arith, z))
-        (cases_Bool (is_odd es p)) in
+    (λ (o : is_odd es p ≡ true). let z = odd p o in let y = folded_less es p (has_step ps) in omega (arith, z, y))
+    (λ (o : is_odd es p ≡ false).
+    let z = turned_bound es p (has_step ps) w (folded_crossing es p) s (some_turned es p w (folded_crossing es p) refl es turned) (ap (λ b. differ b (is_odd es p)) chosen ∙ turned_differ (is_odd es p) o) in
+    omega (arith, z))
+    (cases_Bool (is_odd es p)) in
     omega (arith, ints, weight, less))
     (λ (some : unlisted es ps ≡ 0 → ⊥). omega (arith, ints, weight, most, some))
     (cases_eq (unlisted es ps) 0)

@@ -1,7 +1,7 @@
 -- The pairs of a cut as they are listed, row by row.
-use Rattle.std.proofs.Common.{◌≡◌, ℕ, ◌+◌, ◌<◌, ◌≤◌, Bool, true, false, ◌||◌, List, [], ◌∷◌, ◌++◌, refl, sym, ap, ◌∙◌, subst, arith, ⊎_elim, ◌⊎◌, inl, inr}
+use Rattle.std.proofs.Common.{◌≡◌, ℕ, ◌+◌, ◌<◌, ◌≤◌, Bool, true, false, ◌||◌, List, [], ◌∷◌, ◌++◌, refl, sym, ap, ◌∙◌, subst, arith, ⊎_elim, inl, inr}
 use Rattle.std.specs.List.{AllByRecursion}
-use Rattle.std.proofs.lemmas.Bool.{cases_eq, cases_lt, or_left, or_right, or_parts, false≢true, cases_Bool}
+use Rattle.std.proofs.lemmas.Bool.{cases_eq, or_left, or_right, false≢true, cases_Bool}
 use Rattle.std.proofs.lemmas.Bool.Decides.{nat_tests}
 use Rattle.tspdef.specs.Tours.{joins, crosses, has_step}
 use Rattle.tspdef.specs.Fixed.{IsPairBefore, PairsRise, AreRisingPairs}
@@ -40,7 +40,11 @@ step_last (p ∷ ps) u v = or_right (joins u v p) (has_step (ps ++ (u, v) ∷ []
 module _ (n : ℕ) (p : ℕ → Bool) (chosen : ℕ → ℕ → Bool) where
   pub pairs_none : ArePairsTo n p chosen (0, 0) []
   pairs_none = record {
-    below = tt; rising = tt; before = tt; crossed = tt; wanted = tt;
+    below = tt;
+    rising = tt;
+    before = tt;
+    crossed = tt;
+    wanted = tt;
     all = λ a b l m q c w. absurd (⊎_elim (λ (z : a < 0). absurd (omega arith)) (λ z. let y = z.1 in absurd (omega arith)) q);
   }
 

@@ -1,10 +1,9 @@
 -- Whether an odd number of entries above a half cross a set: sums of sets, complements and sets of nothing.
 use Rattle.std.proofs.Common.{◌≡◌, ℕ, ◌<◌, Bool, true, false, not, ◌&&◌, ◌||◌, List, [], ◌∷◌, refl, sym, ap, ◌∙◌}
 use Rattle.std.specs.List.{AllByRecursion}
-use Rattle.tspdef.specs.Tours.{crosses}
 use Rattle.cyc.specs.declared.frac.Entry.{Entry}
 use Rattle.cyc.specs.Frac.{IsEntry}
-use Rattle.sepodd.specs.Folding.{is_over, differ, crosses_over, is_odd}
+use Rattle.sepodd.specs.Folding.{is_over, differ, is_odd}
 
 -- sums of sums
 medial : (a b c d : Bool) → differ (differ a b) (differ c d) ≡ differ (differ a c) (differ b d)

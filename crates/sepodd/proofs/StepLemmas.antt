@@ -1,10 +1,9 @@
 -- The steps that part odd sets: what a flow found, and the groups that are left.
-use Rattle.std.proofs.Common.{◌≡◌, ℕ, ◌+◌, ◌<◌, ◌≤◌, Bool, true, false, not, cond, ◌==◌, List, length, slice_index, pos, refl, sym, ap, ◌∙◌, subst, arith, ⊎_elim, ◌⊎◌, inl, inr}
+use Rattle.std.proofs.Common.{◌≡◌, ℕ, ◌<◌, ◌≤◌, Bool, true, false, not, cond, ◌==◌, List, length, slice_index, pos, refl, sym, ap, ◌∙◌, subst, arith, ⊎_elim}
 use Rattle.std.specs.List.{AllByRecursion}
 use Rattle.std.proofs.lemmas.Int.{ints}
-use Rattle.std.proofs.lemmas.Bool.{cases_Bool, cases_eq, cases_lt, false≢true, cond-true, cond-false, cond_both, eq-eqb, ne_eqb}
+use Rattle.std.proofs.lemmas.Bool.{cases_eq, cases_lt, false≢true, cond_both, ne_eqb}
 use Rattle.tspdef.specs.Sets.{has}
-use Rattle.cyc.specs.declared.frac.Entry.{Entry}
 use Rattle.cyc.specs.Frac.{Values, IsEntry, AreEntries}
 use Rattle.maxflow.specs.Crossings.{crossing_weight, crossing}
 use Rattle.maxflow.specs.Flows.{is_stop, LacksStops, IsBelowAll, IsLeastFlow}

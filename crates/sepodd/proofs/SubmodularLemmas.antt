@@ -5,7 +5,7 @@ use Rattle.std.proofs.lemmas.List.Sums.{sum_by-cons}
 use Rattle.cyc.specs.declared.frac.Entry.{Entry}
 use Rattle.cyc.specs.Frac.{is_listed, IsEntry, ArePairsDistinct, AreEntries}
 use Rattle.maxflow.specs.Crossings.{crossing_at, crossing}
-use Rattle.sepodd.specs.Folding.{one, folded, folded_entry, folded_entries}
+use Rattle.sepodd.specs.Folding.{folded, folded_entries}
 
 abbrev cross : Bool → Bool → ℕ → ℕ
 cross p q x = cond p (cond q 0 x) (cond q x 0)

@@ -1,16 +1,14 @@
 -- The least side that a pair crosses, found from one of its ends.
-use Rattle.std.proofs.Common.{◌≡◌, ℕ, ◌+◌, ◌-◌, ◌<◌, ◌≤◌, Bool, true, false, not, List, [], ◌∷◌, pos, refl, sym, ap, ◌∙◌, subst, arith, ⊎_elim}
+use Rattle.std.proofs.Common.{◌≡◌, ℕ, ◌+◌, ◌≤◌, Bool, true, false, not, List, [], ◌∷◌, pos, refl, sym, ap, ◌∙◌, subst, arith, ⊎_elim}
 use Rattle.std.specs.List.{AllByRecursion}
 use Rattle.std.proofs.lemmas.Bool.{cases_Bool, cases_eq, false≢true}
-use Rattle.tspdef.specs.Sets.{has}
-use Rattle.tspdef.specs.Tours.{crosses}
 use Rattle.cyc.specs.declared.frac.Entry.{Entry}
 use Rattle.cyc.specs.Frac.{Values, AreEntries}
 use Rattle.std.proofs.lemmas.Int.{ints}
 use Rattle.maxflow.proofs.CrossingLemmas.{weight_by_entries}
 use Rattle.maxflow.specs.Crossings.{crossing_weight, crossing}
 use Rattle.maxflow.specs.Flows.{is_stop, LacksStops, IsBelowAll}
-use Rattle.sepodd.specs.Folding.{differ, is_odd, folded_entries, folded_crossing, turning}
+use Rattle.sepodd.specs.Folding.{differ, folded_entries, folded_crossing, turning}
 use Rattle.sepodd.specs.Sides.{IsBest, IsBelowTurned, IsKnown}
 use Rattle.sepodd.specs.declared.sides.Best.{Best}
 use Rattle.sepodd.proofs.SubmodularLemmas.{crossing_not, folded_are_entries}

@@ -8,7 +8,6 @@ use Rattle.tspdef.specs.Cuts.{Cut, odd, IsOdd}
 use Rattle.cyc.specs.Frac.{Values}
 use Rattle.sepodd.specs.declared.sides.Best.{Best}
 use Rattle.sepodd.specs.Odd.{odd_weight}
-use Rattle.sepodd.specs.Sides.{is_chosen}
 
 -- of the pairs u < v of n cities that come before one, those that cross the set and are chosen, rising
 pub record ArePairsTo (n : ℕ) (p : ℕ → Bool) (chosen : ℕ → ℕ → Bool) (end : ℕ × ℕ) (ps : List (ℕ × ℕ)) : Type 0 where

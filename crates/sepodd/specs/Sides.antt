@@ -1,5 +1,5 @@
 -- The best side so far, and how sides are found.
-use Rattle.std.specs.Prelude.{◌≡◌, ◌≢◌, ℕ, ◌+◌, ◌<◌, ◌≤◌, Bool, true, false, cond, not, ◌==◌, List, length, slice_index, slice_index_or, Option, Some, None}
+use Rattle.std.specs.Prelude.{◌≡◌, ◌≢◌, ℕ, ◌+◌, ◌<◌, ◌≤◌, Bool, true, false, ◌==◌, List, length, slice_index, slice_index_or, Option, Some, None}
 use Rattle.tspdef.specs.Sets.{has}
 use Rattle.tspdef.specs.Tours.{crosses, joins}
 use Rattle.cyc.specs.declared.frac.Entry.{Entry}

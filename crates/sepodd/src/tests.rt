@@ -69,9 +69,10 @@ fn no_odd_cut_on_the_sides_of_a_square(rt: HostRuntime) -> Result<(), Fail> {
 fn weight_of(x: &Frac, odd: &OddCut) -> u64 {
     let mut weight = u64::from(SCALE).wrapping_mul(odd.cut.pairs().len() as u64);
     for entry in x.entries() {
-        let handle = &odd.cut.sets()[0];
-        if handle.contains(entry.u) != handle.contains(entry.v) {
-            weight = weight.wrapping_add(u64::from(entry.x));
+        for handle in odd.cut.sets() {
+            if handle.contains(entry.u) != handle.contains(entry.v) {
+                weight = weight.wrapping_add(u64::from(entry.x));
+            }
         }
         for (u, v) in odd.cut.pairs() {
             if (*u == entry.u && *v == entry.v) || (*u == entry.v && *v == entry.u) {
@@ -82,9 +83,18 @@ fn weight_of(x: &Frac, odd: &OddCut) -> u64 {
     weight
 }
 
-/// Adds one value more to each step of a drawn walk through all cities.
-fn add_tour(table: &mut [u32], n: u32, seed: u64, x: u32) -> u64 {
-    let mut order = [0u32, 1, 2, 3, 4, 5, 6, 7, 8];
+/// Where a drawn table has the value of two cities.
+fn cell(u: u32, v: u32) -> usize {
+    u.min(v).wrapping_mul(9).wrapping_add(u.max(v)) as usize
+}
+
+/// A city of a drawn order.
+fn city(order: &[u32], place: usize) -> u32 {
+    order.get(place).copied().unwrap_or(0)
+}
+
+/// Puts the first `n` of nine cities into a drawn order.
+fn shuffle(order: &mut [u32], n: u32, seed: u64) -> u64 {
     let mut state = seed;
     for k in 1..n as usize {
         state = next(state);
@@ -93,15 +103,20 @@ fn add_tour(table: &mut [u32], n: u32, seed: u64, x: u32) -> u64 {
             order.swap(k, other);
         }
     }
-    for k in 0..n {
-        let a = order.get(k as usize).copied().unwrap_or(0);
-        let b = order
-            .get((k + 1) as usize % n as usize)
-            .copied()
-            .unwrap_or(0);
-        if let Some(cell) = table.get_mut((a.min(b) * 9 + a.max(b)) as usize) {
-            *cell = cell.wrapping_add(x);
+    state
+}
+
+/// Adds a value to each step of a drawn walk through all cities.
+fn add_tour(table: &mut [u32], n: u32, seed: u64, x: u32) -> u64 {
+    let mut order = [0u32, 1, 2, 3, 4, 5, 6, 7, 8];
+    let state = shuffle(&mut order, n, seed);
+    let mut last = city(&order, (n as usize).saturating_sub(1));
+    for k in 0..n as usize {
+        let here = city(&order, k);
+        if let Some(value) = table.get_mut(cell(last, here)) {
+            *value = value.wrapping_add(x);
         }
+        last = here;
     }
     state
 }
@@ -119,7 +134,7 @@ fn drawn(alloc: Global, number: u64) -> Result<Frac, Fail> {
     for u in 0..n {
         for v in u + 1..n {
             state = next(state);
-            let mut x = table.get((u * 9 + v) as usize).copied().unwrap_or(0);
+            let mut x = city(&table, cell(u, v));
             if number % 3 == 1 && state >> 62 == 0 {
                 x = x.saturating_sub((state >> 44) as u32 & 0x3_ffff);
             }

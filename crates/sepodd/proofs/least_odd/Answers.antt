@@ -1,5 +1,4 @@
-use Rattle.std.proofs.Common.{◌≡◌, ◌≤◌, ℕ, List, sym, ◌∙◌, subst, arith}
-use Rattle.std.specs.List.{AllByRecursion}
+use Rattle.std.proofs.Common.{◌≡◌, ◌≤◌, ℕ, subst, arith}
 use Rattle.cyc.specs.Frac.{Values}
 use Rattle.sepodd.specs.Folding.{one}
 use Rattle.sepodd.specs.Odd.{IsBelowAll}

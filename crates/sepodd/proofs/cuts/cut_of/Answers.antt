@@ -1,5 +1,5 @@
-use Rattle.std.proofs.Common.{◌≡◌, ◌<◌, ℕ, Bool, not, List, sym, ap, ◌∙◌, subst, arith}
-use Rattle.tspdef.specs.Sets.{has, IsSet}
+use Rattle.std.proofs.Common.{Bool, not, List, sym, ap, ◌∙◌, subst, arith}
+use Rattle.tspdef.specs.Sets.{IsSet}
 use Rattle.tspdef.specs.Cuts.{odd, IsOdd}
 use Rattle.sepodd.specs.Folding.{differ}
 use Rattle.sepodd.specs.Sides.{is_marked, is_chosen}

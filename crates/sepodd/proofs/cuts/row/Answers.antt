@@ -1,4 +1,4 @@
-use Rattle.std.proofs.Common.{◌≡◌, ◌+◌, ◌&&◌, ℕ, Bool, true, false, List, sym, ◌∙◌, subst, arith}
+use Rattle.std.proofs.Common.{◌+◌, sym, ◌∙◌, subst, arith}
 use Rattle.std.proofs.lemmas.Bool.{and_parts, and_from, false≢true}
 use Rattle.tspdef.specs.Tours.{crosses}
 use Rattle.sepodd.specs.Sides.{is_marked, is_chosen}

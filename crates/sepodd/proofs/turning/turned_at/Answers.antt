@@ -1,11 +1,11 @@
-use Rattle.std.proofs.Common.{◌≡◌, ◌<◌, ◌≤◌, ◌+◌, ◌-◌, ℕ, Bool, true, false, not, cond, List, sym, ap, ◌∙◌, subst, arith}
+use Rattle.std.proofs.Common.{◌≡◌, ◌+◌, ◌-◌, ℕ, Bool, true, false, not, cond, List, sym, ap, ◌∙◌, arith}
 use Rattle.std.proofs.lemmas.Bool.{false≢true}
 use Rattle.tspdef.specs.Sets.{has}
 use Rattle.cyc.specs.declared.frac.Entry.{Entry}
 use Rattle.cyc.specs.Frac.{value_of}
 use Rattle.maxflow.specs.Flows.{is_stop}
 use Rattle.sepodd.specs.Folding.{is_odd, folded_crossing, turning}
-use Rattle.sepodd.specs.Sides.{is_marked, IsBelowTurned}
+use Rattle.sepodd.specs.Sides.{is_marked}
 use Rattle.sepodd.proofs.GroupLemmas.{weight_same}
 use Rattle.sepodd.proofs.TurningLemmas.{turned_below}
 use Rattle.sepodd.proofs.turning.turned_at.Goals as goal
@@ -74,12 +74,16 @@ returns-clause-best c =
       size = c.in_ok-side.ensures.size ∙ size;
       has_weight = λ h. (
         sym (c.is_odd.ensures ∙ odd_read c.entries.result.now c.args.x.now.entries c.deref-2.result.now c.in_ok-side.side.items c.entries.ensures.value c.deref-2.ensures.value) ∙ c.if-is_odd.false,
-        (known.listed, (
-        crosses_from (is_marked c.in_ok-side.side.items c.args.entry.u) (is_marked c.in_ok-side.side.items c.args.entry.v)
-            (c.in_ok-side.ensures.marks c.args.entry.u (omega (arith, size, u)) ∙ flow.holds)
-            (c.in_ok-side.ensures.marks c.args.entry.v (omega (arith, size, v)) ∙ flow.lacks c.args.entry.v (omega (arith, cities, v))
+        (
+          known.listed,
+          (
+            crosses_from (is_marked c.in_ok-side.side.items c.args.entry.u) (is_marked c.in_ok-side.side.items c.args.entry.v)
+                (c.in_ok-side.ensures.marks c.args.entry.u (omega (arith, size, u)) ∙ flow.holds)
+                (c.in_ok-side.ensures.marks c.args.entry.v (omega (arith, size, v)) ∙ flow.lacks c.args.entry.v (omega (arith, cities, v))
                 (stop_read c.deref.result.now c.in_ok-stops.stops.items c.deref.ensures.value true c.args.entry.v c.in_ok-stops.ensures.here)),
-        omega (arith, weight, value, turn)))
+            omega (arith, weight, value, turn),
+          ),
+        ),
       );
     }
 

@@ -1,5 +1,4 @@
 use Rattle.std.proofs.Common.{rules, length, refl, ◌≡◌, List, [], ◌∷◌, subst, arith}
-use Rattle.std.proofs.lemmas.Grind.{common_steps}
 use Rattle.cyc.specs.declared.frac.Entry.{Entry}
 use Rattle.sepodd.proofs.TurningLemmas.{AreTurnedSoFar, turned_next, turned_end}
 use Rattle.sepodd.proofs.turning.turned_of.Goals as goal

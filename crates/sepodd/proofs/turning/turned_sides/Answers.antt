@@ -1,4 +1,4 @@
-use Rattle.std.proofs.Common.{◌≡◌, ℕ, Bool, List, sym, subst}
+use Rattle.std.proofs.Common.{List, sym, subst}
 use Rattle.std.specs.List.{AllByRecursion}
 use Rattle.cyc.specs.declared.frac.Entry.{Entry}
 use Rattle.sepodd.specs.Sides.{IsBelowTurned, IsKnown}

@@ -1,8 +1,8 @@
-use Rattle.std.proofs.Common.{◌≡◌, ◌<◌, ◌==◌, ℕ, Bool, true, false, not, List, length, slice_index, sym, ap, ◌∙◌, subst, arith}
+use Rattle.std.proofs.Common.{◌≡◌, ◌<◌, ℕ, Bool, true, false, not, List, length, slice_index, sym, ap, ◌∙◌, subst, arith}
 use Rattle.tspdef.specs.Sets.{has}
 use Rattle.maxflow.specs.Flows.{is_stop}
 use Rattle.sepodd.specs.Folding.{differ, joined}
-use Rattle.sepodd.specs.Sides.{is_marked, IsBelowParting, IsEvenLeast, AreGroups}
+use Rattle.sepodd.specs.Sides.{is_marked, IsBelowParting, IsEvenLeast}
 use Rattle.sepodd.proofs.StepLemmas.{none_below, groups_merged, groups_joined, merged_below, split_below, even_others, even_members, home_others, home_members}
 use Rattle.sepodd.proofs.uncrossing.+least_of_groups.Goals as goal
 
@@ -63,13 +63,22 @@ least_of_groups-requires t c =
     let f = c.deref-in_default-side-2.ensures.value in
     let r = c.in_ok-rest.ensures in
     let less : length c.in_ok-rest.rest.items < length groups =
-    fewer_read (length c.in_ok-rest.rest.items) c.deref-in_default-side.result.now groups c.deref-in_default-side-2.result.now stops false e f r.fewer u has_t (mark_differs (is_marked stops u) c.in_ok-stop_at.ensures.here) in
-    (omega (arith, less), (c.requires.size, (c.requires.entries, (
-    groups_merged c.args.x.now c.args.numbers.items groups c.merged-fewer.result.items c.in_ok-rest.rest.items s u stops c.entries-entries.ensures.entries.each c.requires.groups has_s has_t two.1.1
-    c.in_ok-stop_at.ensures.others c.merged-fewer.ensures.size c.merged-fewer.ensures.each
-    (kept_read c.in_ok-rest.rest.items c.deref-in_default-side.result.now groups c.deref-in_default-side-2.result.now stops false e f r.kept)
-    (known_read c.in_ok-rest.rest.items c.deref-in_default-side.result.now groups e r.known),
-    c.in_ok-best.ensures.best))))
+    fewer_read (length c.in_ok-rest.rest.items) c.deref-in_default-side.result.now groups c.deref-in_default-side-2.result.now stops false e f r.fewer u has_t (mark_differs (is_marked stops u) c.in_ok-stop_at.ensures.here) in (
+      omega (arith, less),
+      (
+        c.requires.size,
+        (
+          c.requires.entries,
+          (
+            groups_merged c.args.x.now c.args.numbers.items groups c.merged-fewer.result.items c.in_ok-rest.rest.items s u stops c.entries-entries.ensures.entries.each c.requires.groups has_s has_t two.1.1
+                c.in_ok-stop_at.ensures.others c.merged-fewer.ensures.size c.merged-fewer.ensures.each
+                (kept_read c.in_ok-rest.rest.items c.deref-in_default-side.result.now groups c.deref-in_default-side-2.result.now stops false e f r.kept)
+                (known_read c.in_ok-rest.rest.items c.deref-in_default-side.result.now groups e r.known),
+            c.in_ok-best.ensures.best,
+          ),
+        ),
+      ),
+    )
 
 pub least_of_groups-requires-2 : goal.least_of_groups-requires-2
 least_of_groups-requires-2 t c =
@@ -88,15 +97,24 @@ least_of_groups-requires-2 t c =
     let f = c.deref-4.ensures.value in
     let r = c.in_ok-inside.ensures in
     let less : length c.in_ok-inside.inside.items < length groups =
-    fewer_read (length c.in_ok-inside.inside.items) c.deref-3.result.now groups c.deref-4.result.now side true e f r.fewer u has_t (mark_lacks (is_marked side u) even.lacks) in
-    (omega (arith, less), (c.requires.size, (c.requires.entries, (
-    groups_joined x numbers groups c.in_ok-inner.inner.items c.in_ok-inside.inside.items side false u all c.requires.groups (c.requires.groups.known u has_t)
-    (home_others (is_marked side u) even.lacks) (even_others x numbers side s u all even)
-    (c.in_ok-inner.ensures.size ∙ ap (λ (v : List ℕ). length v) c.deref-5.ensures.value)
-    (joined_read c.in_ok-inner.inner.items c.deref-5.result.now numbers c.deref-6.result.now side false u c.deref-5.ensures.value c.deref-6.ensures.value c.in_ok-inner.ensures.each)
-    (kept_read c.in_ok-inside.inside.items c.deref-3.result.now groups c.deref-4.result.now side true e f r.kept)
-    (known_read c.in_ok-inside.inside.items c.deref-3.result.now groups e r.known),
-    c.in_ok-best.ensures.best))))
+    fewer_read (length c.in_ok-inside.inside.items) c.deref-3.result.now groups c.deref-4.result.now side true e f r.fewer u has_t (mark_lacks (is_marked side u) even.lacks) in (
+      omega (arith, less),
+      (
+        c.requires.size,
+        (
+          c.requires.entries,
+          (
+            groups_joined x numbers groups c.in_ok-inner.inner.items c.in_ok-inside.inside.items side false u all c.requires.groups (c.requires.groups.known u has_t)
+                (home_others (is_marked side u) even.lacks) (even_others x numbers side s u all even)
+                (c.in_ok-inner.ensures.size ∙ ap (λ (v : List ℕ). length v) c.deref-5.ensures.value)
+                (joined_read c.in_ok-inner.inner.items c.deref-5.result.now numbers c.deref-6.result.now side false u c.deref-5.ensures.value c.deref-6.ensures.value c.in_ok-inner.ensures.each)
+                (kept_read c.in_ok-inside.inside.items c.deref-3.result.now groups c.deref-4.result.now side true e f r.kept)
+                (known_read c.in_ok-inside.inside.items c.deref-3.result.now groups e r.known),
+            c.in_ok-best.ensures.best,
+          ),
+        ),
+      ),
+    )
 
 pub returns-in_default-side-clause-least : goal.returns-in_default-side-clause-least
 returns-in_default-side-clause-least t c =
@@ -122,15 +140,24 @@ least_of_groups-requires-3 t c =
     let f = c.deref-8.ensures.value in
     let r = c.in_ok-outside.ensures in
     let less : length c.in_ok-outside.outside.items < length groups =
-    fewer_read (length c.in_ok-outside.outside.items) c.deref-7.result.now groups c.deref-8.result.now side false e f r.fewer s has_s (mark_differs (is_marked side s) even.holds) in
-    (omega (arith, less), (c.requires.size, (c.requires.entries, (
-    groups_joined x numbers groups c.in_ok-outer.outer.items c.in_ok-outside.outside.items side true s all c.requires.groups (c.requires.groups.known s has_s)
-    (home_members (is_marked side s) even.holds) (even_members x numbers side s u all even)
-    (c.in_ok-outer.ensures.size ∙ ap (λ (v : List ℕ). length v) c.deref-9.ensures.value)
-    (joined_read c.in_ok-outer.outer.items c.deref-9.result.now numbers c.deref-10.result.now side true s c.deref-9.ensures.value c.deref-10.ensures.value c.in_ok-outer.ensures.each)
-    (kept_read c.in_ok-outside.outside.items c.deref-7.result.now groups c.deref-8.result.now side false e f r.kept)
-    (known_read c.in_ok-outside.outside.items c.deref-7.result.now groups e r.known),
-    c.in_ok-first.ensures.best))))
+    fewer_read (length c.in_ok-outside.outside.items) c.deref-7.result.now groups c.deref-8.result.now side false e f r.fewer s has_s (mark_differs (is_marked side s) even.holds) in (
+      omega (arith, less),
+      (
+        c.requires.size,
+        (
+          c.requires.entries,
+          (
+            groups_joined x numbers groups c.in_ok-outer.outer.items c.in_ok-outside.outside.items side true s all c.requires.groups (c.requires.groups.known s has_s)
+                (home_members (is_marked side s) even.holds) (even_members x numbers side s u all even)
+                (c.in_ok-outer.ensures.size ∙ ap (λ (v : List ℕ). length v) c.deref-9.ensures.value)
+                (joined_read c.in_ok-outer.outer.items c.deref-9.result.now numbers c.deref-10.result.now side true s c.deref-9.ensures.value c.deref-10.ensures.value c.in_ok-outer.ensures.each)
+                (kept_read c.in_ok-outside.outside.items c.deref-7.result.now groups c.deref-8.result.now side false e f r.kept)
+                (known_read c.in_ok-outside.outside.items c.deref-7.result.now groups e r.known),
+            c.in_ok-first.ensures.best,
+          ),
+        ),
+      ),
+    )
 
 pub returns-clause-least : goal.returns-clause-least
 returns-clause-least t c =

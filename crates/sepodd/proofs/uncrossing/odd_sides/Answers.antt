@@ -1,4 +1,4 @@
-use Rattle.std.proofs.Common.{◌≡◌, ◌<◌, ◌≤◌, ◌==◌, ℕ, List, length, slice_index, sym, ap, ◌∙◌, subst, arith}
+use Rattle.std.proofs.Common.{◌∙◌, arith}
 use Rattle.sepodd.proofs.StepLemmas.{groups_alone, below_alone}
 use Rattle.sepodd.proofs.uncrossing.odd_sides.Goals as goal
 

@@ -1,10 +1,9 @@
-use Rattle.std.proofs.Common.{◌≡◌, ◌<◌, ℕ, Bool, true, false, List, slice_index, sym, ap, ◌∙◌, subst, arith}
+use Rattle.std.proofs.Common.{◌≡◌, ℕ, Bool, true, false, List, slice_index, sym, ap, ◌∙◌, arith}
 use Rattle.cyc.specs.declared.frac.Entry.{Entry}
-use Rattle.cyc.specs.Frac.{Values}
-use Rattle.maxflow.specs.Flows.{is_stop, IsLeastFlow}
+use Rattle.maxflow.specs.Flows.{is_stop}
 use Rattle.sepodd.specs.Folding.{is_odd}
 use Rattle.sepodd.specs.Sides.{is_marked}
-use Rattle.sepodd.proofs.StepLemmas.{below_parting, side_odd, side_weight, even_least}
+use Rattle.sepodd.proofs.StepLemmas.{below_parting, side_weight, even_least}
 use Rattle.sepodd.proofs.uncrossing.parted.Goals as goal
 
 stop_read : (a b : List Bool) → a ≡ b → (v : Bool) (k : ℕ) → is_stop b k ≡ v → is_stop a k ≡ v
