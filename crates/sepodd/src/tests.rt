@@ -1,3 +1,5 @@
+ghost use Rattle.std.specs.Prelude.{◌≤◌};
+
 use crate::{OddCut, SCALE, is_relaxed, least_odd, plain};
 use cyc::{Entry, Frac};
 use std::alloc::{AllocError, Global};
