@@ -20,7 +20,7 @@ use crate::progress::{Progress, Stage};
 use crate::purpose::Purpose;
 use branchx::Cond;
 use certline::{Item, read_line};
-use certtests::{city_set, closes, is_proper, names_clique};
+use certtests::{city_set, closes_in_place, is_proper, names_clique};
 use std::alloc::Global;
 use tspinst::Instance;
 
@@ -157,11 +157,11 @@ impl Progress {
         ensures goes { Goes instance.now.n result self.new (spec.duals_on (verifier instance.now) (head self.old) (later self.old.path.conditions) (open_duals self.old from) 0 0 0) }
         ensures same { self.new.purpose ≡ self.old.purpose }
     {
-        if !closes(
+        if !closes_in_place(
             alloc,
             instance,
             self.bound,
-            &self.cuts,
+            &mut self.cuts,
             self.path.path(),
             &self.cities,
             &self.cut_duals,

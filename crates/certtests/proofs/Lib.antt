@@ -5,3 +5,4 @@ pub mod PathLemmas
 pub mod StepLemmas
 pub mod MergeLemmas
 pub mod Rising
+pub mod MovingLemmas

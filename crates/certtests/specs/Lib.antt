@@ -3,3 +3,4 @@ pub mod Duals
 pub mod Places
 pub mod Followers
 pub mod Merging
+pub mod Moving

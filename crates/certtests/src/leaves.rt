@@ -1,5 +1,5 @@
 //! Closed leaves.
-ghost use Rattle.std.specs.Prelude.{◌≡◌, length, map, IfOk, IfSome};
+ghost use Rattle.std.specs.Prelude.{◌≡◌, length, map, IfOk, IfSome, OnOk};
 ghost use Rattle.std.specs.Option.{option_map, is_some};
 ghost use Rattle.std.specs.Int.Signed.{lt_z};
 ghost use Rattle.std.specs.List.{AllByRecursion};
@@ -16,8 +16,9 @@ ghost use Rattle.certtests.specs.Listed.{listed};
 ghost use Rattle.certtests.specs.Merging.{enough};
 ghost use Rattle.certtests.specs.Duals.{AreDuals};
 
-use crate::duals::closing_of;
+use crate::duals::{city_duals, closing_of};
 use crate::merging::merged_of;
+use crate::moving::{put_back, rise, take_out};
 use branchx::{Cond, Path};
 use cutform::Cut;
 use pricer::{Closing, bound, needed};
@@ -85,6 +86,45 @@ pub fn closes(
         condition_duals,
     )?;
     Ok(exceeds(instance, told, path, &closing))
+}
+
+/// The same, where the cuts of the leaf are taken out of the list meanwhile and put back, so that none is copied if their numbers rise.
+pub fn closes_in_place(
+    alloc: Global,
+    instance: &Instance,
+    told: u64,
+    cuts: &mut Vec<Cut>,
+    path: &Path,
+    cities: &[(u32, i64)],
+    cut_duals: &[(u32, u64)],
+    condition_duals: &[(u32, u64)],
+) -> Result<bool, AllocError>
+    requires cities_of { path.now.n ≡ instance.now.n }
+    requires cuts { AllByRecursion (IsCut instance.now.n) cuts.old.items }
+    requires duals { AreDuals (length cuts.old.items) path.now.conditions 0 0 (record { cities = cities.now; cuts = cut_duals.now; conds = condition_duals.now }) }
+    ensures closes { IfOk result (λ b. b ≡ closes_leaf instance.now told (map listed cuts.old.items) path.now.conditions (record { cities = cities.now; cuts = cut_duals.now; conds = condition_duals.now })) }
+    ensures same { OnOk result (cuts.new.items ≡ cuts.old.items) }
+{
+    if !rise(cut_duals) {
+        return closes(
+            alloc,
+            instance,
+            told,
+            cuts,
+            path,
+            cities,
+            cut_duals,
+            condition_duals,
+        );
+    }
+    let city = city_duals(alloc, instance.n(), cities)?;
+    let conds = Vec::from_slice(alloc, condition_duals)?;
+    let named = take_out(alloc, cuts, cut_duals)?;
+    let closing = Closing::new(city, named, conds);
+    let enough = exceeds(instance, told, path, &closing);
+    let (_, named, _) = closing.into_parts();
+    put_back(cuts, named, cut_duals)?;
+    Ok(enough)
 }
 
 /// The closing that the duals of a leaf are, with equal cuts as one, if it closes the leaf for the bound that a text tells. Its cost is that of

@@ -4,7 +4,8 @@ ghost use Rattle.std.specs.Prelude.{◌≡◌, ◌≤◌, true, IfOk};
 ghost use Rattle.certdef.specs.Items.{is_set};
 
 use crate::{
-    canonical_tour, city_set, closes, comb, has_length, is_proper, names_clique, odd, subtour,
+    canonical_tour, city_set, closes, closes_in_place, comb, has_length, is_proper, names_clique,
+    odd, subtour,
 };
 use branchx::{Cond, Path};
 use cutform::Kind;
@@ -175,6 +176,25 @@ fn the_dual_of_the_second_cut(rt: HostRuntime) -> Result<(), Fail> {
     assert!(rt; closes(alloc, &triangles, 198, &cuts, &path, &[], &second, &[])?);
     assert!(rt; !closes(alloc, &triangles, 199, &cuts, &path, &[], &second, &[])?);
     assert!(rt; !closes(alloc, &triangles, 198, &cuts, &path, &[], &first, &[])?);
+    Ok(())
+}
+
+#[test]
+fn the_cuts_of_a_leaf_stand_where_they_stood(rt: HostRuntime) -> Result<(), Fail> {
+    let alloc = rt.alloc();
+    let triangles = two_triangles(alloc)?;
+    let path = Path::new(alloc, 6);
+    let mut cuts = Vec::new(alloc);
+    cuts.push(subtour(alloc, set(alloc, &[1, 4])?)?.ok_or("no cut")?)?;
+    cuts.push(subtour(alloc, set(alloc, &[1, 2, 3])?)?.ok_or("no cut")?)?;
+    cuts.push(subtour(alloc, set(alloc, &[2, 5])?)?.ok_or("no cut")?)?;
+    let second = [(2, 103809024)];
+    let both = [(1, 1), (2, 103809023)];
+    assert!(rt; closes_in_place(alloc, &triangles, 198, &mut cuts, &path, &[], &second, &[])?);
+    assert!(rt; !closes_in_place(alloc, &triangles, 199, &mut cuts, &path, &[], &both, &[])?);
+    assert!(rt; closes_in_place(alloc, &triangles, 198, &mut cuts, &path, &[], &second, &[])?);
+    assert_eq!(rt; cuts.len(), 3);
+    assert_eq!(rt; cuts[2].sets()[0].cities(), [1, 4].as_slice());
     Ok(())
 }
 

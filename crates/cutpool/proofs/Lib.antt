@@ -1,3 +1,4 @@
 pub mod CrossingLemmas
 pub mod RowLemmas
 pub mod PoolLemmas
+pub mod SeatLemmas

@@ -1,3 +1,4 @@
 pub mod Pool
 pub mod PoolInside
 pub mod Nears
+pub mod Seat

@@ -13,7 +13,7 @@ fn set(alloc: Global, n: u32, cities: &[u32]) -> Result<CitySet, Fail>
     Ok(CitySet::new(alloc, n, Vec::from_slice(alloc, cities)?)?)
 }
 
-fn subtour(alloc: Global, n: u32, cities: &[u32]) -> Result<Cut, Fail>
+pub fn subtour(alloc: Global, n: u32, cities: &[u32]) -> Result<Cut, Fail>
     requires many { 3 ≤ n }
     requires few { n ≤ 2000 }
 {
@@ -21,7 +21,7 @@ fn subtour(alloc: Global, n: u32, cities: &[u32]) -> Result<Cut, Fail>
 }
 
 /// The comb of a prism.
-fn comb(alloc: Global) -> Result<Cut, Fail> {
+pub fn comb(alloc: Global) -> Result<Cut, Fail> {
     let mut teeth = Vec::new(alloc);
     for u in 0..3u32 {
         teeth.push(set(alloc, 6, &[u, u + 3])?)?;
@@ -30,7 +30,7 @@ fn comb(alloc: Global) -> Result<Cut, Fail> {
 }
 
 /// Two triangles of pairs of a half, and between them three pairs of one length.
-fn prism(alloc: Global) -> Result<Frac, Fail> {
+pub fn prism(alloc: Global) -> Result<Frac, Fail> {
     let mut entries = Vec::new(alloc);
     for (u, v) in [(0u32, 1u32), (0, 2), (1, 2), (3, 4), (3, 5), (4, 5)] {
         entries.push(Entry { u, v, x: 0x8_0000 })?;

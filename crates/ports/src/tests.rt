@@ -325,16 +325,10 @@ fn leases_have_the_fates_of_plain_rules(rt: HostRuntime) -> Result<(), Fail> {
         late: true,
     };
     assert_eq!(rt; late.fate(0), Fate::Late);
-    let both = WorsePosts::new(&plain, &late);
-    assert_eq!(rt; both.fate(1), Fate::Never);
-    assert_eq!(rt; both.fate(2), Fate::Late);
-    let open = PlainPosts {
-        lose: 0,
-        twice: false,
-        late: false,
-    };
-    assert_eq!(rt; WorsePosts::new(&open, &plain).fate(7), Fate::Twice);
-    assert_eq!(rt; WorsePosts::new(&open, &open).fate(7), Fate::Once);
+    assert_eq!(rt; Fate::Once.worse(Fate::Twice), Fate::Twice);
+    assert_eq!(rt; Fate::Late.worse(Fate::Twice), Fate::Late);
+    assert_eq!(rt; Fate::Late.worse(Fate::Never), Fate::Never);
+    assert_eq!(rt; Fate::Once.worse(Fate::Once), Fate::Once);
     OpenGate.pass(1, 0, Point::BeforeAsk);
     OpenGate.stands(40, 1, 0, Some(0));
     Ok(())
