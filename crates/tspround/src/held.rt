@@ -146,7 +146,7 @@ impl<J: Opening, W: Worker, L: Ledger, M: Ledger> Held<J, W, L, M> {
             best: self.boss.best_length(),
             open: tree.open_nodes(),
             settled: self.boss.settled(),
-            least_key: None,
+            least_key: self.boss.least_key(),
         }
     }
 

@@ -17,7 +17,6 @@ mod seat;
 mod sent;
 mod serving;
 mod sets;
-mod stub;
 
 pub use laws::{few_cities_end, nothing_is_split_at_the_start, splits_stay, sure_work_is_taken};
 pub use opening::Opening;

@@ -4,7 +4,7 @@ ghost use Rattle.std.specs.Arc.{arc_value};
 
 use crate::held::{Held, Standing};
 use crate::opening::Opening;
-use crate::stub::SharedPool;
+use cutpool::SharedPool;
 use neigh::Neigh;
 use ports::{Gate, Posts};
 use std::alloc::Global;

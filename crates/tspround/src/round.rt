@@ -9,7 +9,7 @@ use crate::opening::Opening;
 use crate::room::Room;
 use crate::seat::{Counts, Seat};
 use bossx::Boss;
-use crate::stub::SharedPool;
+use cutpool::SharedPool;
 use neigh::Neigh;
 use ports::{Gate, Posts};
 use std::alloc::{AllocError, Global};

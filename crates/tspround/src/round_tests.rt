@@ -6,7 +6,7 @@ ghost use Rattle.tspround.specs.Alone.{IsSplitBy};
 
 use crate::{Round, nothing_is_split_at_the_start, rounds};
 use bossx::Boss;
-use crate::stub::SharedPool;
+use cutpool::SharedPool;
 use cyc::Tour;
 use distx::{Kind, Point as Place};
 use neigh::nearest;
