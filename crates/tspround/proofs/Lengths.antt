@@ -72,10 +72,12 @@ path_begins b node k = (
 )
 
 -- and has few conditions on sets, since there are few nodes
-pub path_is_short : (b : Book) (node : ℕ) → IsBook b → IsOpen b.tree.nodes node → length b.start.nodes + 2 * b.budget ≤ 1048576 → cliques (path_in b node) ≤ 2 ^ 21
-path_is_short b node k is_open few =
+pub path_is_few : (b : Book) (node : ℕ) → IsBook b → node < length b.tree.nodes → length b.start.nodes + 2 * b.budget ≤ 1048576 → cliques (path_in b node) ≤ 2 ^ 21
+path_is_few b node k here few =
     let some = cliques_are_few b.tree.fixed b.tree.nodes node in
-    let here = is_open.within in
     let made = k.charged.made in
     let within = k.charged.within in
     omega arith
+
+pub path_is_short : (b : Book) (node : ℕ) → IsBook b → IsOpen b.tree.nodes node → length b.start.nodes + 2 * b.budget ≤ 1048576 → cliques (path_in b node) ≤ 2 ^ 21
+path_is_short b node k is_open few = path_is_few b node k is_open.within few

@@ -4,3 +4,5 @@ pub mod Runs
 pub mod Turns
 pub mod Lengths
 pub mod Few
+pub mod Holding
+pub mod Crossing

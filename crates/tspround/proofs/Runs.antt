@@ -23,7 +23,7 @@ use Rattle.tspround.specs.Alone.{IsOwn, AllOwn, IsOwnRun, IsSplitBy, IsOffered, 
 
 -- ---- runs
 
-run_append : (b mid new : Book) (es fs : List Event) (rs ss : List Reply) → Run b es rs mid → Run mid fs ss new → Run b (es ++ fs) (rs ++ ss) new
+pub run_append : (b mid new : Book) (es fs : List Event) (rs ss : List Reply) → Run b es rs mid → Run mid fs ss new → Run b (es ++ fs) (rs ++ ss) new
 run_append b mid new es fs rs ss (run_ends b') rest = rest
 run_append b mid new es fs rs ss (run_goes_on b' next mid' e r es' rs' s more) rest =
     run_goes_on b next new e r (es' ++ fs) (rs' ++ ss) s (run_append next mid new es' fs rs' ss more rest)

@@ -1,3 +1,4 @@
 pub mod Splits
 pub mod Alone
 pub mod Laws
+pub mod Rounds

@@ -6,13 +6,26 @@
 //! - [`nothing_is_split_at_the_start`], [`splits_stay`] and [`few_cities_end`]: the laws of the splits since the start.
 #![tactic(auto)]
 
+mod held;
 mod laws;
+mod opening;
+mod order;
+mod room;
+mod round;
 mod searching;
+mod seat;
+mod sent;
+mod serving;
 mod sets;
 
 pub use laws::{few_cities_end, nothing_is_split_at_the_start, splits_stay, sure_work_is_taken};
+pub use opening::Opening;
+pub use round::{Round, rounds};
 pub use searching::{alone, alone_counted};
+pub use seat::Counts;
 pub use worker::Effort;
 
+#[cfg(test)]
+mod round_tests;
 #[cfg(test)]
 mod tests;
