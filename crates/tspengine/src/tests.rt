@@ -164,6 +164,25 @@ fn is_bound_to(path: Option<&[u8]>, word: &[u8]) -> bool {
 }
 
 #[test]
+fn what_becomes_of_reports_costs_time_alone(rt: HostRuntime) -> Result<(), Fail> {
+    let alloc = rt.alloc();
+    for line in [
+        "tspc solve a b c --budget 1 --grunts 2 --lose 1",
+        "tspc solve a b c --budget 1 --grunts 2 --lose 300",
+        "tspc solve a b c --budget 1 --grunts 2 --twice",
+        "tspc solve a b c --budget 1 --grunts 2 --late",
+        "tspc solve a b c --grunts 64",
+    ] {
+        let square = solved(&rt, alloc, line, SQUARE)?;
+        assert_eq!(rt; square.status, Status::Optimal);
+        assert_eq!(rt; square.text(), b"OPTIMAL 40\nTOUR 1 2 3 4\n".as_slice());
+    }
+    let many = solved(&rt, alloc, "tspc solve a b c --grunts 65", SQUARE)?;
+    assert_eq!(rt; many.status, Status::Usage);
+    Ok(())
+}
+
+#[test]
 fn small_instances_are_solved(rt: HostRuntime) -> Result<(), Fail> {
     let alloc = rt.alloc();
     let square = solved(&rt, alloc, "tspc solve a b c", SQUARE)?;
