@@ -1,6 +1,6 @@
 -- The text of a report: its cuts as a proof text lists them, and one closed leaf with its duals; or no cut, and one split. And the text
 -- of a tour. What a text says is read line by line; no line has a choice.
-use Rattle.std.specs.Prelude.{ℕ, zero, suc, ◌-◌, ◌==◌, ◌&&◌, nat_le, if◌then◌else◌, List, [], ◌∷◌, ◌++◌, length, Option, Some, None, ℤ}
+use Rattle.std.specs.Prelude.{ℕ, Bool, zero, suc, ◌-◌, ◌==◌, ◌&&◌, nat_le, if◌then◌else◌, List, [], ◌∷◌, ◌++◌, length, Option, Some, None, ℤ}
 use Rattle.std.specs.Option.{option_map}
 use Rattle.certdef.specs.Items.{Item, subtour_line, comb_line, odd_line, edge_line, clique_line, leaf_line}
 use Rattle.certdef.specs.Proofs.{Listed, subtour_cut, comb_cut, odd_cut, Duals}
@@ -28,17 +28,34 @@ abbrev pub onward : {A B : Type 0} → Option A → (A → Option B) → Option 
 onward None f = None
 onward (Some a) f = f a
 
+-- so many things more, behind those so far, each of which may depend on those before it; and the rest of the text
+abbrev pub listed_on : {X : Type 0} → (List X → List ℕ → Option (X × List ℕ)) → List X → ℕ → List ℕ → Option (List X × List ℕ)
+listed_on next xs zero text = Some (xs, text)
+listed_on next xs (suc k) text = onward (next xs text) (λ r. listed_on next (xs ++ r.0 ∷ []) k r.1)
+
+-- what a line says, and what stands behind the line
+abbrev pub with_rest : {X : Type 0} → List ℕ → Option X → Option (X × List ℕ)
+with_rest text None = None
+with_rest text (Some x) = Some (x, other_lines text)
+
+-- the same, where it may come behind those so far
+abbrev pub with_rest_if : {X : Type 0} → (X → Bool) → List ℕ → Option X → Option (X × List ℕ)
+with_rest_if may text None = None
+with_rest_if may text (Some x) = if may x then Some (x, other_lines text) else None
+
 -- ---- cuts
 
--- so many teeth more, behind those so far; and the rest of the text
-abbrev pub teeth_on : ℕ → List (List ℕ) → ℕ → List ℕ → Option (List (List ℕ) × List ℕ)
-teeth_on n ts zero text = Some (ts, text)
-teeth_on n ts (suc t) text = onward (set_of_tooth (first_line n text)) (λ s. teeth_on n (ts ++ s ∷ []) t (other_lines text))
+abbrev pub next_tooth : ℕ → List (List ℕ) → List ℕ → Option (List ℕ × List ℕ)
+next_tooth n ts text = with_rest text (set_of_tooth (first_line n text))
 
--- so many pairs more
+abbrev pub teeth_on : ℕ → List (List ℕ) → ℕ → List ℕ → Option (List (List ℕ) × List ℕ)
+teeth_on n ts t text = listed_on (next_tooth n) ts t text
+
+abbrev pub next_pair : ℕ → List (ℕ × ℕ) → List ℕ → Option ((ℕ × ℕ) × List ℕ)
+next_pair n ps text = with_rest text (pair_of (first_line n text))
+
 abbrev pub pairs_on : ℕ → List (ℕ × ℕ) → ℕ → List ℕ → Option (List (ℕ × ℕ) × List ℕ)
-pairs_on n ps zero text = Some (ps, text)
-pairs_on n ps (suc t) text = onward (pair_of (first_line n text)) (λ p. pairs_on n (ps ++ p ∷ []) t (other_lines text))
+pairs_on n ps t text = listed_on (next_pair n) ps t text
 
 -- what is listed is a cut
 abbrev pub if_cut : ℕ → Listed → List ℕ → Option (Listed × List ℕ)
@@ -62,27 +79,34 @@ cut_by n _ text = None
 abbrev pub cut_in : ℕ → List ℕ → Option (Listed × List ℕ)
 cut_in n text = cut_by n (first_line n text) (other_lines text)
 
--- so many cuts more
+abbrev pub next_cut : ℕ → List Listed → List ℕ → Option (Listed × List ℕ)
+next_cut n cs text = cut_in n text
+
 abbrev pub cuts_on : ℕ → List Listed → ℕ → List ℕ → Option (List Listed × List ℕ)
-cuts_on n cs zero text = Some (cs, text)
-cuts_on n cs (suc m) text = onward (cut_in n text) (λ r. cuts_on n (cs ++ r.0 ∷ []) m r.1)
+cuts_on n cs m text = listed_on (next_cut n) cs m text
 
 -- ---- duals
 
--- so many cities more, with their duals; the numbers rise
+-- the numbers of cities rise
+abbrev pub next_city : ℕ → List (ℕ × ℤ) → List ℕ → Option ((ℕ × ℤ) × List ℕ)
+next_city n ps text = with_rest_if (λ p. nat_le (after ps) p.0) text (city_of (first_line n text))
+
 abbrev pub cities_on : ℕ → List (ℕ × ℤ) → ℕ → List ℕ → Option (List (ℕ × ℤ) × List ℕ)
-cities_on n ps zero text = Some (ps, text)
-cities_on n ps (suc a) text = onward (city_of (first_line n text)) (λ p. if nat_le (after ps) p.0 then cities_on n (ps ++ p ∷ []) a (other_lines text) else None)
+cities_on n ps a text = listed_on (next_city n) ps a text
 
--- so many cuts more, of the k that are listed
+-- so do those of cuts, of which k are listed
+abbrev pub next_cut_dual : ℕ → ℕ → List (ℕ × ℕ) → List ℕ → Option ((ℕ × ℕ) × List ℕ)
+next_cut_dual n k ps text = with_rest_if (λ p. nat_le (after ps) p.0 && nat_le p.0 k) text (cut_dual_of (first_line n text))
+
 abbrev pub cut_duals_on : ℕ → ℕ → List (ℕ × ℕ) → ℕ → List ℕ → Option (List (ℕ × ℕ) × List ℕ)
-cut_duals_on n k ps zero text = Some (ps, text)
-cut_duals_on n k ps (suc b) text = onward (cut_dual_of (first_line n text)) (λ p. if nat_le (after ps) p.0 && nat_le p.0 k then cut_duals_on n k (ps ++ p ∷ []) b (other_lines text) else None)
+cut_duals_on n k ps b text = listed_on (next_cut_dual n k) ps b text
 
--- so many conditions more; what their depths name is the boss's to judge
+-- and depths; what they name is the boss's to judge
+abbrev pub next_condition_dual : ℕ → List (ℕ × ℕ) → List ℕ → Option ((ℕ × ℕ) × List ℕ)
+next_condition_dual n ps text = with_rest_if (λ p. nat_le (after ps) p.0) text (condition_dual_of (first_line n text))
+
 abbrev pub condition_duals_on : ℕ → List (ℕ × ℕ) → ℕ → List ℕ → Option (List (ℕ × ℕ) × List ℕ)
-condition_duals_on n ps zero text = Some (ps, text)
-condition_duals_on n ps (suc c) text = onward (condition_dual_of (first_line n text)) (λ p. if nat_le (after ps) p.0 then condition_duals_on n (ps ++ p ∷ []) c (other_lines text) else None)
+condition_duals_on n ps c text = listed_on (next_condition_dual n) ps c text
 
 -- so many duals of cities, of cuts and of conditions, where k cuts are listed
 abbrev pub duals_in : ℕ → ℕ → (a b c : ℕ) → List ℕ → Option (Duals × List ℕ)

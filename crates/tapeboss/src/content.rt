@@ -20,15 +20,27 @@ pub(crate) fn read_cities(
 {
     let mut cities = Vec::new(alloc);
     for _ in 0..count {
-        let Some((city, dual)) = lines.city(alloc)? else {
+        let Some(city) = next_city(alloc, lines, &cities)? else {
             return Ok(None);
         };
-        if !may_follow_city(&cities, city) {
-            return Ok(None);
-        }
-        cities.push((city, dual))?;
+        cities.push(city)?;
     }
     Ok(Some(cities))
+}
+
+/// The city and its dual that come next, if they may come behind those so far.
+fn next_city(
+    alloc: Global,
+    lines: &mut Lines<'_>,
+    so_far: &[(u32, i64)],
+) -> Result<Option<(u32, i64)>, AllocError>
+    ensures value { IfOk result (λ o. option_map (λ p. (p, lines.new.rest.now)) o ≡ defs.next_city lines.old.n so_far.now lines.old.rest.now) }
+    ensures same { lines.new.n ≡ lines.old.n }
+{
+    match lines.city(alloc)? {
+        Some(city) if may_follow_city(so_far, city.0) => Ok(Some(city)),
+        _ => Ok(None),
+    }
 }
 
 /// So many cuts, by their numbers among those that are listed, with their duals.
@@ -44,15 +56,29 @@ pub(crate) fn read_cut_duals(
 {
     let mut duals = Vec::new(alloc);
     for _ in 0..count {
-        let Some((number, dual)) = lines.cut_dual(alloc)? else {
+        let Some(dual) = next_cut_dual(alloc, lines, listed, &duals)? else {
             return Ok(None);
         };
-        if !may_follow(&duals, number) || number as usize > listed {
-            return Ok(None);
-        }
-        duals.push((number, dual))?;
+        duals.push(dual)?;
     }
     Ok(Some(duals))
+}
+
+/// The cut and its dual that come next, if they may come behind those so far.
+fn next_cut_dual(
+    alloc: Global,
+    lines: &mut Lines<'_>,
+    listed: usize,
+    so_far: &[(u32, u64)],
+) -> Result<Option<(u32, u64)>, AllocError>
+    ensures value { IfOk result (λ o. option_map (λ p. (p, lines.new.rest.now)) o ≡ defs.next_cut_dual lines.old.n listed so_far.now lines.old.rest.now) }
+    ensures number { IfOk result (λ o. IfSome o (λ q. IsFromOne listed q.0)) }
+    ensures same { lines.new.n ≡ lines.old.n }
+{
+    match lines.cut_dual(alloc)? {
+        Some(dual) if may_follow(so_far, dual.0) && dual.0 as usize <= listed => Ok(Some(dual)),
+        _ => Ok(None),
+    }
 }
 
 /// So many conditions, by their depths, with their duals.
@@ -66,15 +92,27 @@ pub(crate) fn read_condition_duals(
 {
     let mut duals = Vec::new(alloc);
     for _ in 0..count {
-        let Some((depth, dual)) = lines.condition_dual(alloc)? else {
+        let Some(dual) = next_condition_dual(alloc, lines, &duals)? else {
             return Ok(None);
         };
-        if !may_follow(&duals, depth) {
-            return Ok(None);
-        }
-        duals.push((depth, dual))?;
+        duals.push(dual)?;
     }
     Ok(Some(duals))
+}
+
+/// The condition and its dual that come next, if they may come behind those so far.
+fn next_condition_dual(
+    alloc: Global,
+    lines: &mut Lines<'_>,
+    so_far: &[(u32, u64)],
+) -> Result<Option<(u32, u64)>, AllocError>
+    ensures value { IfOk result (λ o. option_map (λ p. (p, lines.new.rest.now)) o ≡ defs.next_condition_dual lines.old.n so_far.now lines.old.rest.now) }
+    ensures same { lines.new.n ≡ lines.old.n }
+{
+    match lines.condition_dual(alloc)? {
+        Some(dual) if may_follow(so_far, dual.0) => Ok(Some(dual)),
+        _ => Ok(None),
+    }
 }
 
 /// Whether a city may come after those of a list.

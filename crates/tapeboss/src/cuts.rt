@@ -91,12 +91,25 @@ fn read_teeth(
 {
     let mut teeth = Vec::new(alloc);
     for _ in 0..count {
-        let Some(tooth) = lines.tooth(alloc)? else {
+        let Some(tooth) = next_tooth(alloc, lines)? else {
             return Ok(None);
         };
-        teeth.push(city_set(alloc, lines.n, tooth)?)?;
+        teeth.push(tooth)?;
     }
     Ok(Some(teeth))
+}
+
+/// The tooth that comes next.
+fn next_tooth(alloc: Global, lines: &mut Lines<'_>) -> Result<Option<CitySet>, AllocError>
+    requires many { 3 ≤ lines.old.n }
+    requires few { lines.old.n ≤ 2000 }
+    ensures value { IfOk result (λ o. option_map (λ t. (to_one t.cities, lines.new.rest.now)) o ≡ defs.next_tooth lines.old.n [] lines.old.rest.now) }
+    ensures same { lines.new.n ≡ lines.old.n }
+{
+    match lines.tooth(alloc)? {
+        Some(set) => Ok(Some(city_set(alloc, lines.n, set)?)),
+        None => Ok(None),
+    }
 }
 
 /// The odd cut of so many pairs whose handle comes next.
@@ -132,10 +145,21 @@ fn read_pairs(
 {
     let mut pairs = Vec::new(alloc);
     for _ in 0..count {
-        let Some((u, v)) = lines.pair(alloc)? else {
+        let Some(pair) = next_pair(alloc, lines)? else {
             return Ok(None);
         };
-        pairs.push((u - 1, v - 1))?;
+        pairs.push(pair)?;
     }
     Ok(Some(pairs))
+}
+
+/// The pair that comes next, of cities from 0.
+fn next_pair(alloc: Global, lines: &mut Lines<'_>) -> Result<Option<(u32, u32)>, AllocError>
+    ensures value { IfOk result (λ o. option_map (λ p. (pair_to_one p, lines.new.rest.now)) o ≡ defs.next_pair lines.old.n [] lines.old.rest.now) }
+    ensures same { lines.new.n ≡ lines.old.n }
+{
+    match lines.pair(alloc)? {
+        Some((u, v)) => Ok(Some((u - 1, v - 1))),
+        None => Ok(None),
+    }
 }

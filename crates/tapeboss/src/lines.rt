@@ -1,5 +1,5 @@
 //! The lines of a text, one by one, and what they say.
-ghost use Rattle.std.specs.Prelude.{◌≡◌, ◌≤◌, true, position, IfOk, IfSome, OnOk};
+ghost use Rattle.std.specs.Prelude.{◌≡◌, ◌≤◌, ◌==◌, true, position, IfOk, IfSome, OnOk};
 ghost use Rattle.std.specs.Option.{option_map};
 ghost use Rattle.certdef.specs.Items.{fits, is_set};
 ghost use Rattle.certline.specs.Said.{said};

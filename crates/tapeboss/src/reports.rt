@@ -1,12 +1,13 @@
 //! Reports out of their texts.
-ghost use Rattle.std.specs.Prelude.{◌≡◌, ◌≤◌, ◌-◌, map, length, IfOk, IfSome};
+ghost use Rattle.std.specs.Prelude.{◌≡◌, ℕ, ◌≤◌, List, map, length, IfOk, IfSome};
 ghost use Rattle.std.specs.Option.{option_map};
 ghost use Rattle.std.specs.List.{AllByRecursion};
+ghost use Rattle.tspdef.specs.Closings as closings;
 ghost use Rattle.tspdef.specs.Cuts.{IsCut};
+ghost use Rattle.pricer.specs.declared.closing.Report.{Report};
 ghost use Rattle.certdef.specs.Accepted as accepted;
 ghost use Rattle.certtests.specs.Listed.{listed};
 ghost use Rattle.tapeboss.specs.Messages as defs;
-ghost use Rattle.tapeboss.specs.Messages.{onward};
 
 use crate::closings::closing_of;
 use crate::content::{read_cities, read_condition_duals, read_cut_duals};
@@ -56,7 +57,7 @@ fn read_content(
     requires few { lines.old.n ≤ 2000 }
     requires cuts { AllByRecursion (IsCut lines.old.n) cuts.now }
     ensures value { IfOk result (λ o. option_map (λ r. (r, lines.new.rest.now)) o
-        ≡ option_map (λ q. (defs.report_by lines.old.n (map listed cuts.now) q.0, q.1)) (defs.content_in lines.old.n (length cuts.now) lines.old.rest.now)) }
+        ≡ option_map {U = Report × List ℕ} (λ q. (defs.report_by lines.old.n (map listed cuts.now) q.0, q.1)) (defs.content_in lines.old.n (length cuts.now) lines.old.rest.now)) }
 {
     match lines.next(alloc)? {
         Some(Item::Leaf(cities, named, conditions)) => {
@@ -84,7 +85,7 @@ fn read_closing(
     conditions: u32,
 ) -> Result<Option<Closing>, AllocError>
     ensures value { IfOk result (λ o. option_map (λ c. (c, lines.new.rest.now)) o
-        ≡ option_map (λ q. (accepted.closing_of lines.old.n cuts.now q.0, q.1)) (defs.duals_in lines.old.n (length cuts.now) cities named conditions lines.old.rest.now)) }
+        ≡ option_map {U = closings.Closing × List ℕ} (λ q. (accepted.closing_of lines.old.n cuts.now q.0, q.1)) (defs.duals_in lines.old.n (length cuts.now) cities named conditions lines.old.rest.now)) }
     ensures same { lines.new.n ≡ lines.old.n }
 {
     let Some(city) = read_cities(alloc, lines, cities)? else {

@@ -1,0 +1,5 @@
+pub mod Playing
+pub mod LineLemmas
+pub mod ReadLemmas
+pub mod CutLemmas
+pub mod ReportLemmas
