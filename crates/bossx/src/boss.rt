@@ -1,14 +1,14 @@
 //! The boss.
-ghost use Rattle.std.specs.Prelude.{◌≡◌, ◌+◌, ◌-◌, ◌*◌, ◌<◌, ◌≤◌, ◌↔◌, [], true, None, pos, length, replicate, IfOk, IsTrue, MatchOption, vec_capacity};
+ghost use Rattle.std.specs.Prelude.{◌≡◌, ℕ, ◌+◌, ◌-◌, ◌*◌, ◌<◌, ◌≤◌, ◌↔◌, [], true, None, pos, length, replicate, IfOk, IfSome, IfNone, IsTrue, MatchOption, vec_capacity};
 ghost use Rattle.tspdef.specs.Instances.{IsTourOf, length_in};
 ghost use Rattle.tspdef.specs.Trees.{IsSoundFor, Covers, settled};
 ghost use Rattle.tspdef.specs.Closings as closings;
 ghost use Rattle.tspdef.specs.Bounds as bounds;
 ghost use Rattle.treebook.specs.Tables.{tree_of};
 ghost use Rattle.leasebook.specs.Leases.{is_held, lease_at, of_grunt};
-ghost use Rattle.bossx.specs.Books.{best_length, level, path_in, node_of, content_of, key_at, is_split, lost, released, dropped, granted, taken, with_best};
+ghost use Rattle.bossx.specs.Books.{IsFree, best_length, level, path_in, node_of, content_of, key_at, is_split, lost, released, dropped, granted, taken, with_best};
 ghost use Rattle.bossx.specs.Judging.{IsUndecided, IsNewSet, BranchFits, IsBranchMisfit, BroughtFits, IsMisfitOf, IsAtHome, IsReady, MayBeTaken, IsJudged};
-ghost use Rattle.bossx.specs.Steps.{Step, IsNext, IsInFront};
+ghost use Rattle.bossx.specs.Steps.{Step, IsNext, IsInFront, IsFirstFree};
 ghost use Rattle.bossx.specs.Answers.{IsAnswer, IsBoundOf, AreOpenBelow, reported_after, own_after};
 ghost use Rattle.bossx.specs.Kept.{IsBook, IsStart};
 
@@ -310,6 +310,17 @@ impl Boss {
         ensures within { self.now.settled ≤ self.now.budget }
     {
         self.settled
+    }
+
+    /// The least key of a free node, if there is one: the key of the node that is lent next. O(1).
+    pub fn least_key(&self) -> Option<i64>
+        ensures some { IfSome result (λ key. (node : ℕ) × IsFirstFree self.now node × (key ≡ key_at self.now.keys node)) }
+        ensures none { IfNone result ((node : ℕ) → ¬ IsFree self.now.tree.nodes self.now.table.leases node) }
+    {
+        match self.free.least() {
+            Some(node) => Some(self.key(node)),
+            None => None,
+        }
     }
 
     /// How many nodes may be closed or split since the start.
