@@ -3,3 +3,4 @@ pub mod LineLemmas
 pub mod ReadLemmas
 pub mod CutLemmas
 pub mod ReportLemmas
+pub mod FrameLemmas

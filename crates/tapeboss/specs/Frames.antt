@@ -83,7 +83,6 @@ Hears (Err errors.NoMemory) q = Unit {0}
 Hears (Err (errors.Bad f)) q = q ≡ Err f
 
 -- the grunt that four bytes name, or the first fault
-abbrev pub GruntIs : ℕ → List ℕ → Result ℕ FrameError → Type 0
+abbrev pub GruntIs : ℕ → List ℕ → Result ℕ Fault → Type 0
 GruntIs grunts args (Ok g) = (length args ≡ 4) × (g ≡ word_of args) × (1 ≤ g) × (g ≤ grunts)
-GruntIs grunts args (Err errors.NoMemory) = ⊥
-GruntIs grunts args (Err (errors.Bad f)) = (call : ℕ → Event) → with_grunt grunts call args ≡ Err f
+GruntIs grunts args (Err f) = (call : ℕ → Event) → with_grunt grunts call args ≡ Err f

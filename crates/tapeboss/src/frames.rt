@@ -29,25 +29,47 @@ pub(crate) fn hear(
         return Err(FrameError::Bad(Fault::BadKind));
     };
     match *kind {
-        1 => Ok(Event::Ask(grunt_of(grunts, args)?)),
+        1 => ask_of(grunts, args),
         2 => report_of(alloc, n, args),
-        3 => Ok(Event::Gone(grunt_of(grunts, args)?)),
+        3 => gone_of(grunts, args),
         4 => lease_of(args),
         5 => offer_of(alloc, n, args),
         _ => Err(FrameError::Bad(Fault::BadKind)),
     }
 }
 
+/// A grunt that asks.
+fn ask_of(grunts: u32, args: &[u8]) -> Result<Event, FrameError>
+    ensures hears { Hears result (defs.with_grunt grunts Event.Ask args.now) }
+    ensures calls { IfOk result (IsCall grunts) }
+{
+    match grunt_of(grunts, args) {
+        Ok(grunt) => Ok(Event::Ask(grunt)),
+        Err(fault) => Err(FrameError::Bad(fault)),
+    }
+}
+
+/// A grunt that is gone.
+fn gone_of(grunts: u32, args: &[u8]) -> Result<Event, FrameError>
+    ensures hears { Hears result (defs.with_grunt grunts Event.Gone args.now) }
+    ensures calls { IfOk result (IsCall grunts) }
+{
+    match grunt_of(grunts, args) {
+        Ok(grunt) => Ok(Event::Gone(grunt)),
+        Err(fault) => Err(FrameError::Bad(fault)),
+    }
+}
+
 /// The grunt that is named.
-fn grunt_of(grunts: u32, args: &[u8]) -> Result<u32, FrameError>
+fn grunt_of(grunts: u32, args: &[u8]) -> Result<u32, Fault>
     ensures { GruntIs grunts args.now result }
 {
     if args.len() != 4 {
-        return Err(FrameError::Bad(Fault::BadKind));
+        return Err(Fault::BadKind);
     }
     let grunt = first_word(args);
     if grunt < 1 || grunt > grunts {
-        return Err(FrameError::Bad(Fault::BadGrunt));
+        return Err(Fault::BadGrunt);
     }
     Ok(grunt)
 }
@@ -73,7 +95,8 @@ fn report_of(alloc: Global, n: u32, args: &[u8]) -> Result<Event, FrameError>
     if args.len() < 4 {
         return Err(FrameError::Bad(Fault::BadKind));
     }
-    match read_report(alloc, n, &args[4..])? {
+    let (_, text) = args.split_at(4);
+    match read_report(alloc, n, text)? {
         Some(report) => Ok(Event::Report(first_word(args), Brought::Plain(report))),
         None => Err(FrameError::Bad(Fault::BadText)),
     }

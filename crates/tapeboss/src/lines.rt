@@ -4,7 +4,7 @@ ghost use Rattle.std.specs.Option.{option_map};
 ghost use Rattle.certdef.specs.Items.{fits, is_set};
 ghost use Rattle.certline.specs.Said.{said};
 ghost use Rattle.tapeboss.specs.Lines as defs;
-ghost use Rattle.tapeboss.specs.Lines.{first_line, other_lines, set_of_handle, set_of_tooth, pair_of, city_of, cut_dual_of, condition_dual_of};
+ghost use Rattle.tapeboss.specs.Lines.{first_line, other_lines, count_of, cities_of, set_of_handle, set_of_tooth, pair_of, city_of, cut_dual_of, condition_dual_of};
 
 use certline::{Item, read_line};
 use std::alloc::{AllocError, Global};
@@ -46,6 +46,30 @@ impl<'a> Lines<'a> {
         let (line, tail) = self.rest.split_at(end);
         self.rest = &tail[1..];
         read_line(alloc, self.n, line)
+    }
+
+    /// The number of cuts that comes next.
+    pub(crate) fn count(&mut self, alloc: Global) -> Result<Option<u32>, AllocError>
+        ensures value { IfOk result (λ o. o ≡ count_of (first_line self.old.n self.old.rest.now)) }
+        ensures rest { OnOk result (self.new.rest.now ≡ other_lines self.old.rest.now) }
+        ensures same { self.new.n ≡ self.old.n }
+    {
+        match self.next(alloc)? {
+            Some(Item::Cuts(count)) => Ok(Some(count)),
+            _ => Ok(None),
+        }
+    }
+
+    /// The cities of the tour that comes next.
+    pub(crate) fn tour(&mut self, alloc: Global) -> Result<Option<Vec<u64>>, AllocError>
+        ensures value { IfOk result (λ o. option_map (λ v. v.items) o ≡ cities_of (first_line self.old.n self.old.rest.now)) }
+        ensures rest { OnOk result (self.new.rest.now ≡ other_lines self.old.rest.now) }
+        ensures same { self.new.n ≡ self.old.n }
+    {
+        match self.next(alloc)? {
+            Some(Item::Tour(cities)) => Ok(Some(cities)),
+            _ => Ok(None),
+        }
     }
 
     /// The set of the handle that comes next.

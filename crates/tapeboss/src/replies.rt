@@ -21,64 +21,59 @@ pub(crate) fn reply_line(alloc: Global, reply: Reply) -> Result<Vec<u8>, AllocEr
 fn asked_line(alloc: Global, asked: Asked) -> Result<Vec<u8>, AllocError>
     ensures { IfOk result (λ t. t.items ≡ lines.asked_line asked) }
 {
-    let line = match asked {
-        Asked::Done => format!(in alloc; "DONE\n")?,
-        Asked::Spent => format!(in alloc; "SPENT\n")?,
-        Asked::Home => format!(in alloc; "HOME\n")?,
-        Asked::NotYet => format!(in alloc; "NOTYET\n")?,
-        Asked::Leased { lease, node, best } => format!(in alloc; "LEASED {lease} {node} {best}\n")?,
-    };
-    Ok(line.into_bytes())
+    match asked {
+        Asked::Done => Ok(format!(in alloc; "DONE\n")?.into_bytes()),
+        Asked::Spent => Ok(format!(in alloc; "SPENT\n")?.into_bytes()),
+        Asked::Home => Ok(format!(in alloc; "HOME\n")?.into_bytes()),
+        Asked::NotYet => Ok(format!(in alloc; "NOTYET\n")?.into_bytes()),
+        Asked::Leased { lease, node, best } => Ok(format!(in alloc; "LEASED {lease} {node} {best}\n")?.into_bytes()),
+    }
 }
 
 fn reported_line(alloc: Global, reported: Reported) -> Result<Vec<u8>, AllocError>
     ensures { IfOk result (λ t. t.items ≡ lines.reported_line reported) }
 {
-    let line = match reported {
-        Reported::Unknown => format!(in alloc; "UNKNOWN\n")?,
-        Reported::Stale => format!(in alloc; "STALE\n")?,
-        Reported::Spent => format!(in alloc; "SPENT\n")?,
-        Reported::Misfit(k) => format!(in alloc; "MISFIT {k}\n")?,
-        Reported::Weak { bound, needed } => format!(in alloc; "WEAK {bound} {needed}\n")?,
-        Reported::Taken => format!(in alloc; "TAKEN\n")?,
-    };
-    Ok(line.into_bytes())
+    match reported {
+        Reported::Unknown => Ok(format!(in alloc; "UNKNOWN\n")?.into_bytes()),
+        Reported::Stale => Ok(format!(in alloc; "STALE\n")?.into_bytes()),
+        Reported::Spent => Ok(format!(in alloc; "SPENT\n")?.into_bytes()),
+        Reported::Misfit(k) => Ok(format!(in alloc; "MISFIT {k}\n")?.into_bytes()),
+        Reported::Weak { bound, needed } => Ok(format!(in alloc; "WEAK {bound} {needed}\n")?.into_bytes()),
+        Reported::Taken => Ok(format!(in alloc; "TAKEN\n")?.into_bytes()),
+    }
 }
 
 fn gone_line(alloc: Global, lease: Option<u32>) -> Result<Vec<u8>, AllocError>
     ensures { IfOk result (λ t. t.items ≡ lines.gone_line lease) }
 {
-    let line = match lease {
-        None => format!(in alloc; "NONE\n")?,
-        Some(lease) => format!(in alloc; "LOST {lease}\n")?,
-    };
-    Ok(line.into_bytes())
+    match lease {
+        None => Ok(format!(in alloc; "NONE\n")?.into_bytes()),
+        Some(lease) => Ok(format!(in alloc; "LOST {lease}\n")?.into_bytes()),
+    }
 }
 
 fn expiry_line(alloc: Global, expiry: Expiry) -> Result<Vec<u8>, AllocError>
     ensures { IfOk result (λ t. t.items ≡ lines.expiry_line expiry) }
 {
-    let line = match expiry {
-        Expiry::Unknown => format!(in alloc; "UNKNOWN\n")?,
-        Expiry::NotHeld => format!(in alloc; "NOTHELD\n")?,
-        Expiry::Expired => format!(in alloc; "EXPIRED\n")?,
-    };
-    Ok(line.into_bytes())
+    match expiry {
+        Expiry::Unknown => Ok(format!(in alloc; "UNKNOWN\n")?.into_bytes()),
+        Expiry::NotHeld => Ok(format!(in alloc; "NOTHELD\n")?.into_bytes()),
+        Expiry::Expired => Ok(format!(in alloc; "EXPIRED\n")?.into_bytes()),
+    }
 }
 
 fn offered_line(alloc: Global, offered: Offered) -> Result<Vec<u8>, AllocError>
     ensures { IfOk result (λ t. t.items ≡ lines.offered_line offered) }
 {
-    let line = match offered {
-        Offered::OtherSize => format!(in alloc; "OTHERSIZE\n")?,
+    match offered {
+        Offered::OtherSize => Ok(format!(in alloc; "OTHERSIZE\n")?.into_bytes()),
         Offered::OffFixed(u, v) => {
             let (u, v) = (u64::from(u) + 1, u64::from(v) + 1);
-            format!(in alloc; "OFFFIXED {u} {v}\n")?
+            Ok(format!(in alloc; "OFFFIXED {u} {v}\n")?.into_bytes())
         }
-        Offered::NotShorter(length) => format!(in alloc; "NOTSHORTER {length}\n")?,
-        Offered::Better => format!(in alloc; "BETTER\n")?,
-    };
-    Ok(line.into_bytes())
+        Offered::NotShorter(length) => Ok(format!(in alloc; "NOTSHORTER {length}\n")?.into_bytes()),
+        Offered::Better => Ok(format!(in alloc; "BETTER\n")?.into_bytes()),
+    }
 }
 
 /// The line at the end of a tape: settled nodes, open ones, and the best tour's length.

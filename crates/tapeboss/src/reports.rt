@@ -32,7 +32,7 @@ pub(crate) fn read_report(
     ensures { IfOk result (λ o. o ≡ defs.report_in n text.now) }
 {
     let mut lines = Lines::new(n, text);
-    let Some(Item::Cuts(count)) = lines.next(alloc)? else {
+    let Some(count) = lines.count(alloc)? else {
         return Ok(None);
     };
     let Some(cuts) = read_cuts(alloc, &mut lines, count)? else {
@@ -61,8 +61,10 @@ fn read_content(
 {
     match lines.next(alloc)? {
         Some(Item::Leaf(cities, named, conditions)) => {
-            let closing = read_closing(alloc, lines, cuts, cities, named, conditions)?;
-            Ok(closing.map(|closing| Report::Closed(closing)))
+            match read_closing(alloc, lines, cuts, cities, named, conditions)? {
+                Some(closing) => Ok(Some(Report::Closed(closing))),
+                None => Ok(None),
+            }
         }
         Some(Item::Edge(u, v)) if cuts.is_empty() => {
             Ok(Some(Report::Split(Branch::Edge(u - 1, v - 1))))

@@ -197,7 +197,8 @@ fn play(
     ensures bad { (f : Fault) (k : ℕ) → result ≡ Err (TapeError.Bad f k) → IsToldAs boss.old bytes.now frame out.old.items out.new.items f k }
 {
     let n = boss.instance().n();
-    match hear(alloc, n, boss.grunts(), &bytes[HEADER..]) {
+    let (_, body) = bytes.split_at(HEADER);
+    match hear(alloc, n, boss.grunts(), body) {
         Ok(event) => {
             let reply = boss.act(event);
             let line = reply_line(alloc, reply)?;

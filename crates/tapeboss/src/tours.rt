@@ -6,7 +6,6 @@ ghost use Rattle.certtests.specs.Places.{AreFromOne};
 ghost use Rattle.tapeboss.specs.Messages as defs;
 
 use crate::lines::Lines;
-use certline::Item;
 use cyc::{Tour, TourError};
 use std::alloc::{AllocError, Global};
 
@@ -17,7 +16,7 @@ pub(crate) fn read_tour(alloc: Global, n: u32, text: &[u8]) -> Result<Option<Tou
     ensures { IfOk result (λ o. o ≡ defs.tour_in n text.now) }
 {
     let mut lines = Lines::new(n, text);
-    let Some(Item::Tour(cities)) = lines.next(alloc)? else {
+    let Some(cities) = lines.tour(alloc)? else {
         return Ok(None);
     };
     if !lines.are_over() {
