@@ -4,3 +4,4 @@ pub mod ReadLemmas
 pub mod CutLemmas
 pub mod ReportLemmas
 pub mod FrameLemmas
+pub mod PieceLemmas

@@ -1,5 +1,5 @@
 -- Tours and reports that are read.
-use Rattle.std.proofs.Common.{◌≡◌, ℕ, ◌-◌, ◌<◌, ◌≤◌, List, [], ◌∷◌, map, Option, Some, None, Bool, true, false, cond, ◌&&◌, refl, sym, ap, ◌∙◌, subst, arith}
+use Rattle.std.proofs.Common.{◌≡◌, ℕ, ◌-◌, ◌<◌, ◌≤◌, List, [], ◌∷◌, map, length, Option, Some, None, Bool, true, false, cond, ◌&&◌, refl, sym, ap, ◌∙◌, subst, arith}
 use Rattle.std.specs.Prelude.{MatchOption, nat_lt}
 use Rattle.std.specs.List.{AllByRecursion}
 use Rattle.std.proofs.lemmas.Bool.{false_from_ne_true, and_parts, ltb-true}
@@ -7,11 +7,12 @@ use Rattle.std.proofs.lemmas.Bool.Decides.{nat_tests}
 use Rattle.tspdef.specs.Tours.{IsTour}
 use Rattle.certdef.specs.Accepted.{from_zero, cuts_of, closing_of}
 use Rattle.certdef.specs.Proofs.{Listed, Duals}
+use Rattle.certdef.specs.Items.{leaf_line}
 use Rattle.certdef.specs.Tests.{each_positive, is_tour}
 use Rattle.certtests.specs.Places.{AreFromOne}
 use Rattle.verdict.proofs.Decisions.{tour_yes, yes_tour}
 use Rattle.tapeboss.specs.Lines.{are_over, first_line, other_lines, cities_of, count_of}
-use Rattle.tapeboss.specs.Messages.{onward, tour_in, Content, closed, Message, content_in, cuts_on, message_behind, message_in, report_by, report_of, report_in, duals_in}
+use Rattle.tapeboss.specs.Messages.{onward, tour_in, Content, closed, Message, content_by, content_in, cuts_on, message_behind, message_in, report_by, report_of, report_in, duals_in}
 use Rattle.std.specs.Option.{option_map}
 use Rattle.tspdef.specs.Closings.{Closing}
 use Rattle.tspdef.specs.Cuts.{Cut, IsCut}
@@ -69,7 +70,7 @@ some_is a b e = cc
 some_is_none : {A : Type 0} (a : A) → Some a ≡ None → ⊥
 some_is_none a e = cc
 
-content_told : (n : ℕ) (cs : List Listed) (o : Option (Content × List ℕ)) (r : Report) (rest : List ℕ) → Some (r, rest) ≡ option_map {U = Report × List ℕ} (λ q. (report_by n cs q.0, q.1)) o → are_over rest ≡ true
+content_told : (n : ℕ) (cs : List Listed) (o : Option (Content × List ℕ)) (r : Report) (rest : List ℕ) → Some (r, rest) ≡ option_map {T = Content × List ℕ} {U = Report × List ℕ} (λ q. (report_by n cs q.0, q.1)) o → are_over rest ≡ true
     → option_map (report_of n) (onward o (λ (q : Content × List ℕ). cond (are_over q.1) (Some (record { cuts = cs; content = q.0 })) None)) ≡ Some r
 content_told n cs None r rest e over = absurd (some_is_none (r, rest) e)
 content_told n cs (Some q) r rest e over =
@@ -79,16 +80,26 @@ content_told n cs (Some q) r rest e over =
     ap (λ b. option_map (report_of n) (cond b (Some message) None)) over' ∙ ap Some (sym (ap (λ (p : Report × List ℕ). p.0) f))
 
 pub report_read : (n k : ℕ) (text rest end : List ℕ) (cs : List Listed) (count : ℕ) (r : Report) → count_of (first_line n text) ≡ Some k → cuts_on n [] k (other_lines text) ≡ Some (cs, rest) → length cs ≡ count
-    → Some (r, end) ≡ option_map {U = Report × List ℕ} (λ q. (report_by n cs q.0, q.1)) (content_in n count rest) → are_over end ≡ true → Some r ≡ report_in n text
+    → Some (r, end) ≡ option_map {T = Content × List ℕ} {U = Report × List ℕ} (λ q. (report_by n cs q.0, q.1)) (content_in n count rest) → are_over end ≡ true → Some r ≡ report_in n text
 report_read n k text rest end cs count r e f same g over =
-    let told = content_told n cs (content_in n (length cs) rest) r end (subst (λ j. Some (r, end) ≡ option_map {U = Report × List ℕ} (λ q. (report_by n cs q.0, q.1)) (content_in n j rest)) (sym same) g) over in
+    let told = content_told n cs (content_in n (length cs) rest) r end (subst (λ j. Some (r, end) ≡ option_map {T = Content × List ℕ} {U = Report × List ℕ} (λ q. (report_by n cs q.0, q.1)) (content_in n j rest)) (sym same) g) over in
     sym (ap (λ o. option_map (report_of n) (onward o (λ (j : ℕ). onward (cuts_on n [] j (other_lines text)) (λ (p : List Listed × List ℕ). message_behind n p.0 p.1)))) e
         ∙ (ap (λ o. option_map (report_of n) (onward o (λ (p : List Listed × List ℕ). message_behind n p.0 p.1))) f ∙ told))
 
 -- a closed leaf
-pub leaf_told : (n : ℕ) (cuts : List Cut) (o : Option (Duals × List ℕ)) (c : Closing) (rest : List ℕ) → AllByRecursion (IsCut n) cuts → Some (c, rest) ≡ option_map {U = Closing × List ℕ} (λ q. (closing_of n cuts q.0, q.1)) o
-    → Some (Closed c, rest) ≡ option_map {U = Report × List ℕ} (λ q. (report_by n (map listed cuts) q.0, q.1)) (onward o (λ (q : Duals × List ℕ). Some (closed q.0, q.1)))
+pub leaf_told : (n : ℕ) (cuts : List Cut) (o : Option (Duals × List ℕ)) (c : Closing) (rest : List ℕ) → AllByRecursion (IsCut n) cuts → Some (c, rest) ≡ option_map {T = Duals × List ℕ} {U = Closing × List ℕ} (λ q. (closing_of n cuts q.0, q.1)) o
+    → Some (Closed c, rest) ≡ option_map {T = Content × List ℕ} {U = Report × List ℕ} (λ q. (report_by n (map listed cuts) q.0, q.1)) (onward o (λ (q : Duals × List ℕ). Some (closed q.0, q.1)))
 leaf_told n cuts None c rest k e = absurd (some_is_none (c, rest) e)
 leaf_told n cuts (Some q) c rest k e =
     let f : (c, rest) ≡ (closing_of n cuts q.0, q.1) = some_is (c, rest) (closing_of n cuts q.0, q.1) e in
     ap (λ (p : Closing × List ℕ). Some (Closed p.0, p.1)) f ∙ ap (λ ks. Some (Closed (closing_of n ks q.0), q.1)) (sym (cuts_again n cuts k))
+
+pub leaf_read : (n m k a b d : ℕ) (cuts : List Cut) (text rest end : List ℕ) (c : Closing) → m ≡ n → rest ≡ other_lines text → first_line n text ≡ Some (leaf_line a b d) → AllByRecursion (IsCut n) cuts
+    → Some (c, end) ≡ option_map {T = Duals × List ℕ} {U = Closing × List ℕ} (λ q. (closing_of m cuts q.0, q.1)) (duals_in m k a b d rest)
+    → Some (Closed c, end) ≡ option_map {T = Content × List ℕ} {U = Report × List ℕ} (λ q. (report_by n (map listed cuts) q.0, q.1)) (content_in n k text)
+leaf_read n m k a b d cuts text rest end c e f line are told =
+    let here : Some (c, end) ≡ option_map {T = Duals × List ℕ} {U = Closing × List ℕ} (λ q. (closing_of n cuts q.0, q.1)) (duals_in n k a b d (other_lines text)) =
+        subst (λ (j : ℕ). Some (c, end) ≡ option_map {T = Duals × List ℕ} {U = Closing × List ℕ} (λ q. (closing_of j cuts q.0, q.1)) (duals_in j k a b d (other_lines text))) e
+        (subst (λ (z : List ℕ). Some (c, end) ≡ option_map {T = Duals × List ℕ} {U = Closing × List ℕ} (λ q. (closing_of m cuts q.0, q.1)) (duals_in m k a b d z)) f told) in
+    leaf_told n cuts (duals_in n k a b d (other_lines text)) c end are here
+    ∙ ap (λ o. option_map {T = Content × List ℕ} {U = Report × List ℕ} (λ q. (report_by n (map listed cuts) q.0, q.1)) (content_by n k o (other_lines text))) (sym line)

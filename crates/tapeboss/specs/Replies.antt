@@ -1,5 +1,5 @@
 -- The lines that are answered. Cities count from 1, and each line ends with one LF.
-use Rattle.std.specs.Prelude.{ℕ, ◌+◌, List, ◌++◌, codes, decimal, Option, Some, None}
+use Rattle.std.specs.Prelude.{ℕ, ◌+◌, List, ◌++◌, codes, decimal, Option, Some, None, ℤ}
 use Rattle.std.specs.Fmt.{signed_decimal}
 use Rattle.bossx.specs.declared.events.Reply.{Reply}
 use Rattle.bossx.specs.declared.events.Reply.TheVariants as replies
@@ -12,19 +12,28 @@ use Rattle.bossx.specs.declared.replies.Expiry.TheVariants as expiry
 use Rattle.bossx.specs.declared.replies.Offered.{Offered}
 use Rattle.bossx.specs.declared.replies.Offered.TheVariants as offered
 
+abbrev pub leased_line : ℕ → ℕ → ℕ → List ℕ
+leased_line lease node best = codes "LEASED " ++ decimal lease ++ codes " " ++ decimal node ++ codes " " ++ decimal best ++ codes "\n"
+
+abbrev pub weak_line : ℤ → ℤ → List ℕ
+weak_line bound needed = codes "WEAK " ++ signed_decimal bound ++ codes " " ++ signed_decimal needed ++ codes "\n"
+
+abbrev pub off_fixed_line : ℕ → ℕ → List ℕ
+off_fixed_line u v = codes "OFFFIXED " ++ decimal u ++ codes " " ++ decimal v ++ codes "\n"
+
 abbrev pub asked_line : Asked → List ℕ
 asked_line asked.Done = codes "DONE\n"
 asked_line asked.Spent = codes "SPENT\n"
 asked_line asked.Home = codes "HOME\n"
 asked_line asked.NotYet = codes "NOTYET\n"
-asked_line (asked.Leased lease node best) = codes "LEASED " ++ decimal lease ++ codes " " ++ decimal node ++ codes " " ++ decimal best ++ codes "\n"
+asked_line (asked.Leased lease node best) = leased_line lease node best
 
 abbrev pub reported_line : Reported → List ℕ
 reported_line reported.Unknown = codes "UNKNOWN\n"
 reported_line reported.Stale = codes "STALE\n"
 reported_line reported.Spent = codes "SPENT\n"
 reported_line (reported.Misfit k) = codes "MISFIT " ++ decimal k ++ codes "\n"
-reported_line (reported.Weak bound needed) = codes "WEAK " ++ signed_decimal bound ++ codes " " ++ signed_decimal needed ++ codes "\n"
+reported_line (reported.Weak bound needed) = weak_line bound needed
 reported_line reported.Taken = codes "TAKEN\n"
 
 abbrev pub gone_line : Option ℕ → List ℕ
@@ -39,7 +48,7 @@ expiry_line expiry.Expired = codes "EXPIRED\n"
 -- a tour of another number of cities is no frame of a tape, but an answer
 abbrev pub offered_line : Offered → List ℕ
 offered_line offered.OtherSize = codes "OTHERSIZE\n"
-offered_line (offered.OffFixed u v) = codes "OFFFIXED " ++ decimal (u + 1) ++ codes " " ++ decimal (v + 1) ++ codes "\n"
+offered_line (offered.OffFixed u v) = off_fixed_line (u + 1) (v + 1)
 offered_line (offered.NotShorter l) = codes "NOTSHORTER " ++ decimal l ++ codes "\n"
 offered_line offered.Better = codes "BETTER\n"
 

@@ -26,7 +26,7 @@ fn asked_line(alloc: Global, asked: Asked) -> Result<Vec<u8>, AllocError>
         Asked::Spent => Ok(format!(in alloc; "SPENT\n")?.into_bytes()),
         Asked::Home => Ok(format!(in alloc; "HOME\n")?.into_bytes()),
         Asked::NotYet => Ok(format!(in alloc; "NOTYET\n")?.into_bytes()),
-        Asked::Leased { lease, node, best } => Ok(format!(in alloc; "LEASED {lease} {node} {best}\n")?.into_bytes()),
+        Asked::Leased { lease, node, best } => leased_line(alloc, lease, node, best),
     }
 }
 
@@ -38,7 +38,7 @@ fn reported_line(alloc: Global, reported: Reported) -> Result<Vec<u8>, AllocErro
         Reported::Stale => Ok(format!(in alloc; "STALE\n")?.into_bytes()),
         Reported::Spent => Ok(format!(in alloc; "SPENT\n")?.into_bytes()),
         Reported::Misfit(k) => Ok(format!(in alloc; "MISFIT {k}\n")?.into_bytes()),
-        Reported::Weak { bound, needed } => Ok(format!(in alloc; "WEAK {bound} {needed}\n")?.into_bytes()),
+        Reported::Weak { bound, needed } => weak_line(alloc, bound, needed),
         Reported::Taken => Ok(format!(in alloc; "TAKEN\n")?.into_bytes()),
     }
 }
@@ -67,13 +67,28 @@ fn offered_line(alloc: Global, offered: Offered) -> Result<Vec<u8>, AllocError>
 {
     match offered {
         Offered::OtherSize => Ok(format!(in alloc; "OTHERSIZE\n")?.into_bytes()),
-        Offered::OffFixed(u, v) => {
-            let (u, v) = (u64::from(u) + 1, u64::from(v) + 1);
-            Ok(format!(in alloc; "OFFFIXED {u} {v}\n")?.into_bytes())
-        }
+        Offered::OffFixed(u, v) => off_fixed_line(alloc, u64::from(u) + 1, u64::from(v) + 1),
         Offered::NotShorter(length) => Ok(format!(in alloc; "NOTSHORTER {length}\n")?.into_bytes()),
         Offered::Better => Ok(format!(in alloc; "BETTER\n")?.into_bytes()),
     }
+}
+
+fn leased_line(alloc: Global, lease: u32, node: u32, best: u64) -> Result<Vec<u8>, AllocError>
+    ensures { IfOk result (λ t. t.items ≡ lines.leased_line lease node best) }
+{
+    Ok(format!(in alloc; "LEASED {lease} {node} {best}\n")?.into_bytes())
+}
+
+fn weak_line(alloc: Global, bound: i128, needed: i128) -> Result<Vec<u8>, AllocError>
+    ensures { IfOk result (λ t. t.items ≡ lines.weak_line bound needed) }
+{
+    Ok(format!(in alloc; "WEAK {bound} {needed}\n")?.into_bytes())
+}
+
+fn off_fixed_line(alloc: Global, u: u64, v: u64) -> Result<Vec<u8>, AllocError>
+    ensures { IfOk result (λ t. t.items ≡ lines.off_fixed_line u v) }
+{
+    Ok(format!(in alloc; "OFFFIXED {u} {v}\n")?.into_bytes())
 }
 
 /// The line at the end of a tape: settled nodes, open ones, and the best tour's length.

@@ -76,7 +76,10 @@ impl Tape {
                 return Err(stop(alloc, Fault::TooLong, tape.frames + 1, out));
             }
             let (part, more) = rest.split_at(count);
-            tape = tape.go_on(alloc, part, out)?;
+            match tape.go_on(alloc, part, out) {
+                Ok(next) => tape = next,
+                Err(error) => return Err(error),
+            }
             rest = more;
         }
         Ok(tape)
@@ -139,7 +142,11 @@ impl Tape {
         } = self;
         begun.extend_from_slice(part)?;
         let read = read + part.len() as u64;
-        if turn(alloc, &mut boss, &begun, frames + 1, out)? {
+        let whole = match turn(alloc, &mut boss, &begun, frames + 1, out) {
+            Ok(whole) => whole,
+            Err(error) => return Err(error),
+        };
+        if whole {
             begun.clear();
             return Ok(Tape {
                 boss,
@@ -180,8 +187,10 @@ fn turn(
     if begun.len() < HEADER + size {
         return Ok(false);
     }
-    play(alloc, boss, begun, frame, out)?;
-    Ok(true)
+    match play(alloc, boss, begun, frame, out) {
+        Ok(()) => Ok(true),
+        Err(error) => Err(error),
+    }
 }
 
 /// Plays a frame that is whole.

@@ -1,4 +1,16 @@
+use Rattle.std.proofs.Common.{inr, arith}
 use Rattle.tapeboss.proofs.tape.turn.Goals as goal
 
-pub returns-in_err-play-clause-bad : goal.returns-in_err-play-clause-bad
-returns-in_err-play-clause-bad c = ?
+pub returns-in-Err-clause-bad : goal.returns-in-Err-clause-bad
+returns-in-Err-clause-bad c = λ f k e.
+    let h = c.in-Err.ensures.bad f k e in
+    let word = c.first_word-size.ensures in
+    record {
+      fault = inr (record {
+        header = c.if-begun-lt-HEADER.false;
+        size = (omega (arith, word, c.if-size-lt1.false), omega (arith, word, c.if-size-gt-LONGEST.false));
+        whole = omega (arith, word, c.if-begun-size.false);
+      }, h.fault);
+      at = h.at;
+      put = h.put;
+    }

@@ -1,7 +1,31 @@
+use Rattle.std.proofs.Common.{◌≡◌, ℕ, ◌+◌, ◌<◌, List, [], ◌++◌, length, Some, sym, ap, ◌∙◌, subst, arith}
+use Rattle.std.proofs.lemmas.Bool.{eqb-true}
+use Rattle.certline.proofs.Runs.{some_left}
+use Rattle.tapeboss.specs.Frames.{number_of}
+use Rattle.tapeboss.specs.Replies.{fault_line}
+use Rattle.tapeboss.specs.Tapes.{Playing, EndsAs, last_line}
+use Rattle.tapeboss.specs.declared.error.Fault.{Fault}
+use Rattle.tapeboss.specs.declared.error.Fault.TheVariants.{Truncated}
+use Rattle.tapeboss.proofs.Playing.{truncated_is_told, end_is_told}
+use Rattle.tapeboss.proofs.PieceLemmas.{err_is, none_left}
 use Rattle.tapeboss.proofs.tape.Tape.finish.Goals as goal
 
 pub returns-then-not-is_empty-clause-bad : goal.returns-then-not-is_empty-clause-bad
-returns-then-not-is_empty-clause-bad c = ?
+returns-then-not-is_empty-clause-bad c = λ f k e.
+    let h = c.stop.ensures f k (err_is c.stop.result _ e) in
+    let view = c.self.view_is in
+    let line = fault_line (number_of Truncated) (c.self.inside.frames + 1) in
+    let some : 0 < length c.self.inside.begun.items = grind (arith, c.is_empty.ensures, c.if-not-is_empty.true) in
+    (line, h.2,
+     subst (λ (g : Fault). EndsAs c.args.self line (Some (g, k))) (sym h.0)
+     (truncated_is_told c.args.self line k (h.1 ∙ ap (λ (t : Playing). t.frames + 1) view) (ap (λ (t : Playing). fault_line (number_of Truncated) (t.frames + 1)) view)
+     (subst (λ (t : Playing). 0 < length t.begun) view some)))
 
 pub returns-clause-ended : goal.returns-clause-ended
-returns-clause-ended c = ?
+returns-clause-ended c =
+    let view = c.self.view_is in
+    let none : length c.self.inside.begun.items ≡ 0 = grind (arith, c.is_empty.ensures, c.if-not-is_empty.false) in
+    let empty : c.self.inside.begun.items ≡ [] = none_left c.self.inside.begun.items none in
+    let line : c.deref.result.now ≡ last_line c.self.inside.boss = grind (arith, c.deref.ensures.value, c.in_ok-line.ensures, c.settled.ensures.value, c.open_nodes.ensures, c.best_length.ensures, c.snapshot.ensures.tree) in
+    (c.deref.result.now, c.in_ok-extend_from_slice.ensures.items,
+     end_is_told c.args.self c.deref.result.now (line ∙ ap (λ (t : Playing). last_line t.book) view) (sym (ap (λ (t : Playing). t.begun) view) ∙ empty))
