@@ -103,3 +103,11 @@ leaf_read n m k a b d cuts text rest end c e f line are told =
         (subst (λ (z : List ℕ). Some (c, end) ≡ option_map {T = Duals × List ℕ} {U = Closing × List ℕ} (λ q. (closing_of m cuts q.0, q.1)) (duals_in m k a b d z)) f told) in
     leaf_told n cuts (duals_in n k a b d (other_lines text)) c end are here
     ∙ ap (λ o. option_map {T = Content × List ℕ} {U = Report × List ℕ} (λ q. (report_by n (map listed cuts) q.0, q.1)) (content_by n k o (other_lines text))) (sym line)
+
+-- cuts that are read behind the first line
+pub cuts_here : (n m k : ℕ) (text from : List ℕ) (v : Option (List Listed × List ℕ)) → m ≡ n → from ≡ other_lines text → v ≡ cuts_on m [] k from → cuts_on n [] k (other_lines text) ≡ v
+cuts_here n m k text from v e f h = sym (h ∙ (ap (λ (j : ℕ). cuts_on j [] k from) e ∙ ap (λ (z : List ℕ). cuts_on n [] k z) f))
+
+pub content_here : (n m : ℕ) (cs : List Listed) (count : ℕ) (rest : List ℕ) (v : Option (Report × List ℕ)) → m ≡ n → v ≡ option_map {T = Content × List ℕ} {U = Report × List ℕ} (λ q. (report_by m cs q.0, q.1)) (content_in m count rest)
+    → v ≡ option_map {T = Content × List ℕ} {U = Report × List ℕ} (λ q. (report_by n cs q.0, q.1)) (content_in n count rest)
+content_here n m cs count rest v e h = h ∙ ap (λ (j : ℕ). option_map {T = Content × List ℕ} {U = Report × List ℕ} (λ q. (report_by j cs q.0, q.1)) (content_in j count rest)) e

@@ -7,6 +7,7 @@ use Rattle.tapeboss.specs.Replies.{fault_line}
 use Rattle.tapeboss.specs.Tapes.{Playing, GoesOn, StopsAt}
 use Rattle.tapeboss.specs.declared.error.Fault.{Fault}
 use Rattle.tapeboss.specs.declared.error.Fault.TheVariants.{TooLong}
+use Rattle.tapeboss.specs.declared.error.TapeError.TheVariants.{Bad}
 use Rattle.tapeboss.proofs.Playing.{goes_nowhere, goes_further, stops_further, stops_before, too_long_is_told}
 use Rattle.tapeboss.proofs.PieceLemmas.{err_is, none_left, both, goes_by, put_more}
 use Rattle.tapeboss.proofs.tape.Tape.feed.Goals as goal
@@ -18,7 +19,7 @@ pub returns-then-count-eq0-clause-bad : goal.returns-then-count-eq0-clause-bad
 returns-then-count-eq0-clause-bad c = λ f k e.
     let inv = c.loop-rest.invariant in
     let rest = c.loop-rest.rest.now in
-    let h = c.stop.ensures f k (err_is c.stop.result _ e) in
+    let h = c.stop.ensures f k (err_is c.stop.result (Bad f k) e) in
     let view = c.tape.view_is in
     let some = some_left rest (sym c.is_empty.ensures ∙ c.loop-rest-test.true) in
     let line = fault_line (number_of TooLong) (c.tape.inside.frames + 1) in

@@ -6,13 +6,14 @@ use Rattle.tapeboss.specs.Replies.{fault_line}
 use Rattle.tapeboss.specs.Tapes.{Playing, EndsAs, last_line}
 use Rattle.tapeboss.specs.declared.error.Fault.{Fault}
 use Rattle.tapeboss.specs.declared.error.Fault.TheVariants.{Truncated}
+use Rattle.tapeboss.specs.declared.error.TapeError.TheVariants.{Bad}
 use Rattle.tapeboss.proofs.Playing.{truncated_is_told, end_is_told}
-use Rattle.tapeboss.proofs.PieceLemmas.{err_is, none_left}
+use Rattle.tapeboss.proofs.PieceLemmas.{err_is, none_left, last_is}
 use Rattle.tapeboss.proofs.tape.Tape.finish.Goals as goal
 
 pub returns-then-not-is_empty-clause-bad : goal.returns-then-not-is_empty-clause-bad
 returns-then-not-is_empty-clause-bad c = λ f k e.
-    let h = c.stop.ensures f k (err_is c.stop.result _ e) in
+    let h = c.stop.ensures f k (err_is c.stop.result (Bad f k) e) in
     let view = c.self.view_is in
     let line = fault_line (number_of Truncated) (c.self.inside.frames + 1) in
     let some : 0 < length c.self.inside.begun.items = grind (arith, c.is_empty.ensures, c.if-not-is_empty.true) in
@@ -26,6 +27,7 @@ returns-clause-ended c =
     let view = c.self.view_is in
     let none : length c.self.inside.begun.items ≡ 0 = grind (arith, c.is_empty.ensures, c.if-not-is_empty.false) in
     let empty : c.self.inside.begun.items ≡ [] = none_left c.self.inside.begun.items none in
-    let line : c.deref.result.now ≡ last_line c.self.inside.boss = grind (arith, c.deref.ensures.value, c.in_ok-line.ensures, c.settled.ensures.value, c.open_nodes.ensures, c.best_length.ensures, c.snapshot.ensures.tree) in
+    let line : c.deref.result.now ≡ last_line c.self.inside.boss = c.deref.ensures.value ∙ (c.in_ok-line.ensures
+        ∙ last_is c.self.inside.boss c.settled.result c.open_nodes.result c.best_length.result c.snapshot.result.1.now c.settled.ensures.value c.open_nodes.ensures c.snapshot.ensures.tree c.best_length.ensures) in
     (c.deref.result.now, c.in_ok-extend_from_slice.ensures.items,
      end_is_told c.args.self c.deref.result.now (line ∙ ap (λ (t : Playing). last_line t.book) view) (sym (ap (λ (t : Playing). t.begun) view) ∙ empty))

@@ -1,16 +1,18 @@
-use Rattle.std.proofs.Common.{◌≡◌, ℕ, ◌+◌, List, [], ◌++◌, length, sym, ap, ◌∙◌, subst, length-append, arith}
+use Rattle.std.proofs.Common.{◌≡◌, ℕ, ◌+◌, List, [], ◌++◌, length, Err, sym, ap, ◌∙◌, subst, length-append, arith}
 use Rattle.std.proofs.lemmas.List.{append-nil}
 use Rattle.bossx.specs.Books.{Book}
 use Rattle.tapeboss.specs.Frames.{IsBegun, number_of}
 use Rattle.tapeboss.specs.Replies.{fault_line}
 use Rattle.tapeboss.specs.Tapes.{Playing}
 use Rattle.tapeboss.specs.Turns.{IsLongEnough, IsAnswered, FaultIn}
+use Rattle.tapeboss.specs.declared.error.TapeError.TheVariants.{Bad}
+use Rattle.tapeboss.proofs.PieceLemmas.{err_is}
 use Rattle.tapeboss.proofs.Playing.{frame_ends, part_is_begun, frame_is_played, fault_is_told}
 use Rattle.tapeboss.proofs.tape.Tape.go_on.Goals as goal
 
 pub returns-in-Err-clause-bad : goal.returns-in-Err-clause-bad
 returns-in-Err-clause-bad c = λ f k e.
-    let h = c.in-Err.ensures.bad f k e in
+    let h = c.in-Err.ensures.bad f k (ap Err (err_is c.in-Err.error (Bad f k) e)) in
     let view = c.self.view_is in
     let old = c.args.self in
     let part = c.args.part.now in
