@@ -1,5 +1,7 @@
 -- Pieces, and what is left of them.
 use Rattle.std.proofs.Common.{◌≡◌, ℕ, ◌<◌, List, [], ◌∷◌, ◌++◌, length, take, drop, Result, Ok, Err, refl, sym, ap, ◌∙◌, append_assoc, arith}
+use Rattle.std.specs.Prelude.{◌==◌, Bool, true, false}
+use Rattle.std.proofs.lemmas.Bool.Decides.{nat_tests}
 use Rattle.std.proofs.lemmas.List.{take-append-drop}
 use Rattle.tspdef.specs.Trees.{open_leaves}
 use Rattle.treebook.specs.Tables.{tree_of}
@@ -8,7 +10,7 @@ use Rattle.bossx.specs.Books.{Book, best_length}
 use Rattle.tapeboss.specs.Replies.{end_line}
 use Rattle.tapeboss.specs.Tapes.{last_line}
 
-err_or : {A E : Type 0} → E → Result A E → E
+abbrev err_or : {A E : Type 0} → E → Result A E → E
 err_or d (Ok x) = d
 err_or d (Err e) = e
 
@@ -33,3 +35,6 @@ pub last_is : (b : Book) (s o l : ℕ) (t : Table) → s ≡ b.settled → o ≡
 last_is b s o l t e f g h =
     ap (λ (j : ℕ). end_line j o l) e
     ∙ (ap (λ (j : ℕ). end_line b.settled j l) (f ∙ ap (λ (u : Table). open_leaves (tree_of u.nodes)) g) ∙ ap (λ (j : ℕ). end_line b.settled (open_leaves (tree_of b.tree.nodes)) j) h)
+
+pub some_of : (n : ℕ) → (n == 0) ≡ false → 0 < n
+some_of n h = grind (arith, nat_tests)
