@@ -1,6 +1,6 @@
 -- Frames that are heard.
-use Rattle.std.proofs.Common.{◌≡◌, ℕ, ◌<◌, ◌≤◌, List, length, drop, Option, Some, None, Bool, true, false, cond, ◌&&◌, Result, Ok, Err, refl, sym, ap, ◌∙◌, eq-eqb, arith}
-use Rattle.std.specs.Prelude.{nat_le, ◌==◌}
+use Rattle.std.proofs.Common.{◌≡◌, ℕ, ◌≤◌, List, length, drop, Option, Some, true, cond, ◌&&◌, Ok, Err, sym, ap, ◌∙◌, eq-eqb, arith}
+use Rattle.std.specs.Prelude.{nat_le}
 use Rattle.std.proofs.lemmas.Bool.Decides.{nat_tests}
 use Rattle.pricer.specs.declared.closing.Report.{Report}
 use Rattle.bossx.specs.declared.brought.Brought.TheVariants.{Plain}
@@ -8,7 +8,6 @@ use Rattle.bossx.specs.declared.events.Event.{Event}
 use Rattle.bossx.specs.declared.events.Event.TheVariants as event
 use Rattle.tapeboss.specs.Frames.{word_of, with_grunt, with_report, told_report}
 use Rattle.tapeboss.specs.Messages.{report_in}
-use Rattle.tapeboss.specs.declared.error.Fault.{Fault}
 use Rattle.tapeboss.specs.declared.error.Fault.TheVariants.{BadKind, BadGrunt}
 
 within : (a b : ℕ) → a ≤ b → nat_le a b ≡ true

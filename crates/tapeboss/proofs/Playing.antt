@@ -1,15 +1,15 @@
 -- Tapes that go on, that stop, and that end.
-use Rattle.std.proofs.Common.{◌≡◌, ℕ, ◌+◌, ◌-◌, ◌<◌, ◌≤◌, ◌⊎◌, inl, inr, List, [], ◌∷◌, ◌++◌, length, take, drop, Option, Some, None, refl, sym, ap, ◌∙◌, subst, append_assoc, length-append, arith}
+use Rattle.std.proofs.Common.{◌≡◌, ℕ, ◌+◌, ◌-◌, ◌<◌, ◌≤◌, inl, inr, List, [], ◌++◌, length, take, Some, None, sym, ap, ◌∙◌, subst, append_assoc, length-append, arith}
 use Rattle.std.proofs.lemmas.List.{append-nil, take-append-le}
 use Rattle.std.proofs.Math.Seq.{take-append_seam}
 use Rattle.std.specs.Int.{w32, from_be_bytes}
 use Rattle.bossx.specs.Books.{Book}
-use Rattle.tapeboss.specs.Frames.{IsSize, IsFrame, IsOpenFrame, IsBegun, word_of, heard, number_of}
+use Rattle.tapeboss.specs.Frames.{IsSize, IsFrame, IsBegun, word_of, number_of}
 use Rattle.tapeboss.specs.Replies.{fault_line}
-use Rattle.tapeboss.specs.Tapes.{most_bytes, IsHeard, Plays, none, one_more, IsFault, bad_length, truncated, bad_frame, too_long, last_line, IsPlayedTape, ends, stops, Playing, HasPlayed, GoesOn, StopsAt, EndsAs}
-use Rattle.tapeboss.specs.Turns.{IsRoom, IsLongEnough, IsAnswered, IsBadLength, FaultIn}
+use Rattle.tapeboss.specs.Tapes.{most_bytes, Plays, none, one_more, IsFault, bad_length, truncated, bad_frame, too_long, last_line, IsPlayedTape, ends, stops, Playing, HasPlayed, GoesOn, StopsAt, EndsAs}
+use Rattle.tapeboss.specs.Turns.{IsRoom, IsLongEnough, IsAnswered, FaultIn}
 use Rattle.tapeboss.specs.declared.error.Fault.{Fault}
-use Rattle.tapeboss.specs.declared.error.Fault.TheVariants.{BadLength, Truncated, TooLong}
+use Rattle.tapeboss.specs.declared.error.Fault.TheVariants.{Truncated, TooLong}
 
 -- ---- pieces behind each other
 
@@ -146,7 +146,7 @@ too_long_is_told old rest lines k at line full some start before said more h =
     let both = length-append old.begun rest in
     let left : most_bytes - length h.front ≡ length old.begun = omega (arith, sums, full) in
     let front : take (most_bytes - length h.front) ((old.begun ++ rest) ++ more) ≡ old.begun =
-        ap (λ (j : ℕ). take j ((old.begun ++ rest) ++ more)) left ∙ (ap (take (length old.begun)) (append_assoc old.begun rest more) ∙ take-append_seam old.begun (rest ++ more)) in
+    ap (λ (j : ℕ). take j ((old.begun ++ rest) ++ more)) left ∙ (ap (take (length old.begun)) (append_assoc old.begun rest more) ∙ take-append_seam old.begun (rest ++ more)) in
     subst (λ (j : ℕ). IsPlayedTape start ((before ++ rest) ++ more) (said ++ lines) (Some (TooLong, j))) (sym at)
     (subst (λ (z : List ℕ). IsPlayedTape start ((before ++ rest) ++ more) (said ++ z) (Some (TooLong, old.frames + 1))) (sym line)
     (subst (λ (z : List ℕ). IsPlayedTape start z (said ++ fault_line (number_of TooLong) (old.frames + 1)) (Some (TooLong, old.frames + 1))) (seam start before said rest more old h)

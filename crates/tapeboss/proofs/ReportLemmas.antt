@@ -1,18 +1,18 @@
 -- Tours and reports that are read.
-use Rattle.std.proofs.Common.{◌≡◌, ℕ, ◌-◌, ◌<◌, ◌≤◌, List, [], ◌∷◌, map, length, Option, Some, None, Bool, true, false, cond, ◌&&◌, refl, sym, ap, ◌∙◌, subst, arith}
+use Rattle.std.proofs.Common.{◌≡◌, ℕ, ◌<◌, List, [], ◌∷◌, map, length, Option, Some, None, true, cond, ◌&&◌, refl, sym, ap, ◌∙◌, subst, arith}
 use Rattle.std.specs.Prelude.{MatchOption, nat_lt}
 use Rattle.std.specs.List.{AllByRecursion}
 use Rattle.std.proofs.lemmas.Bool.{false_from_ne_true, and_parts, ltb-true}
 use Rattle.std.proofs.lemmas.Bool.Decides.{nat_tests}
 use Rattle.tspdef.specs.Tours.{IsTour}
-use Rattle.certdef.specs.Accepted.{from_zero, cuts_of, closing_of}
+use Rattle.certdef.specs.Accepted.{from_zero, closing_of}
 use Rattle.certdef.specs.Proofs.{Listed, Duals}
 use Rattle.certdef.specs.Items.{leaf_line}
 use Rattle.certdef.specs.Tests.{each_positive, is_tour}
 use Rattle.certtests.specs.Places.{AreFromOne}
 use Rattle.verdict.proofs.Decisions.{tour_yes, yes_tour}
 use Rattle.tapeboss.specs.Lines.{are_over, first_line, other_lines, cities_of, count_of}
-use Rattle.tapeboss.specs.Messages.{onward, tour_in, Content, closed, Message, content_by, content_in, cuts_on, message_behind, message_in, report_by, report_of, report_in, duals_in}
+use Rattle.tapeboss.specs.Messages.{onward, tour_in, Content, closed, Message, content_by, content_in, cuts_on, message_behind, report_by, report_of, report_in, duals_in}
 use Rattle.std.specs.Option.{option_map}
 use Rattle.tspdef.specs.Closings.{Closing}
 use Rattle.tspdef.specs.Cuts.{Cut, IsCut}
@@ -48,18 +48,18 @@ of_last_line n text cs e over =
 pub out_of_range : (n : ℕ) (cs : List ℕ) → (AreFromOne n cs → ⊥) → tour_if n cs ≡ None
 out_of_range n cs refuted =
     ap (λ b. cond b (Some (from_zero cs)) None) (false_from_ne_true (each_positive cs && is_tour n (from_zero cs)) (λ e.
-        let q = and_parts (each_positive cs) (is_tour n (from_zero cs)) e in
-        refuted (are_within n cs q.0 (tour_yes n (from_zero cs) q.1).below)))
+    let q = and_parts (each_positive cs) (is_tour n (from_zero cs)) e in
+    refuted (are_within n cs q.0 (tour_yes n (from_zero cs) q.1).below)))
 
 -- what making a tour of the cities answers
 pub tour_made : (n : ℕ) (cs xs : List ℕ) (o : Option (List ℕ)) → AreFromOne n cs → xs ≡ from_zero cs → MatchOption o (¬ IsTour n xs) (λ t. IsTour n xs × (t ≡ xs)) → o ≡ tour_if n cs
 tour_made n cs xs None from e none =
     sym (ap (λ b. cond b (Some (from_zero cs)) None) (false_from_ne_true (each_positive cs && is_tour n (from_zero cs)) (λ f.
-        let q = and_parts (each_positive cs) (is_tour n (from_zero cs)) f in
-        none (subst (IsTour n) (sym e) (tour_yes n (from_zero cs) q.1)))))
+    let q = and_parts (each_positive cs) (is_tour n (from_zero cs)) f in
+    none (subst (IsTour n) (sym e) (tour_yes n (from_zero cs) q.1)))))
 tour_made n cs xs (Some t) from e some =
     let both : (each_positive cs && is_tour n (from_zero cs)) ≡ true =
-        ap (λ b. b && is_tour n (from_zero cs)) (are_positive n cs from) ∙ yes_tour n (from_zero cs) (subst (IsTour n) e some.0) in
+    ap (λ b. b && is_tour n (from_zero cs)) (are_positive n cs from) ∙ yes_tour n (from_zero cs) (subst (IsTour n) e some.0) in
     ap Some (some.1 ∙ e) ∙ sym (ap (λ b. cond b (Some (from_zero cs)) None) both)
 
 -- ---- reports
@@ -84,7 +84,7 @@ pub report_read : (n k : ℕ) (text rest end : List ℕ) (cs : List Listed) (cou
 report_read n k text rest end cs count r e f same g over =
     let told = content_told n cs (content_in n (length cs) rest) r end (subst (λ j. Some (r, end) ≡ option_map {T = Content × List ℕ} {U = Report × List ℕ} (λ q. (report_by n cs q.0, q.1)) (content_in n j rest)) (sym same) g) over in
     sym (ap (λ o. option_map (report_of n) (onward o (λ (j : ℕ). onward (cuts_on n [] j (other_lines text)) (λ (p : List Listed × List ℕ). message_behind n p.0 p.1)))) e
-        ∙ (ap (λ o. option_map (report_of n) (onward o (λ (p : List Listed × List ℕ). message_behind n p.0 p.1))) f ∙ told))
+    ∙ (ap (λ o. option_map (report_of n) (onward o (λ (p : List Listed × List ℕ). message_behind n p.0 p.1))) f ∙ told))
 
 -- a closed leaf
 pub leaf_told : (n : ℕ) (cuts : List Cut) (o : Option (Duals × List ℕ)) (c : Closing) (rest : List ℕ) → AllByRecursion (IsCut n) cuts → Some (c, rest) ≡ option_map {T = Duals × List ℕ} {U = Closing × List ℕ} (λ q. (closing_of n cuts q.0, q.1)) o
@@ -99,8 +99,8 @@ pub leaf_read : (n m k a b d : ℕ) (cuts : List Cut) (text rest end : List ℕ)
     → Some (Closed c, end) ≡ option_map {T = Content × List ℕ} {U = Report × List ℕ} (λ q. (report_by n (map listed cuts) q.0, q.1)) (content_in n k text)
 leaf_read n m k a b d cuts text rest end c e f line are told =
     let here : Some (c, end) ≡ option_map {T = Duals × List ℕ} {U = Closing × List ℕ} (λ q. (closing_of n cuts q.0, q.1)) (duals_in n k a b d (other_lines text)) =
-        subst (λ (j : ℕ). Some (c, end) ≡ option_map {T = Duals × List ℕ} {U = Closing × List ℕ} (λ q. (closing_of j cuts q.0, q.1)) (duals_in j k a b d (other_lines text))) e
-        (subst (λ (z : List ℕ). Some (c, end) ≡ option_map {T = Duals × List ℕ} {U = Closing × List ℕ} (λ q. (closing_of m cuts q.0, q.1)) (duals_in m k a b d z)) f told) in
+    subst (λ (j : ℕ). Some (c, end) ≡ option_map {T = Duals × List ℕ} {U = Closing × List ℕ} (λ q. (closing_of j cuts q.0, q.1)) (duals_in j k a b d (other_lines text))) e
+    (subst (λ (z : List ℕ). Some (c, end) ≡ option_map {T = Duals × List ℕ} {U = Closing × List ℕ} (λ q. (closing_of m cuts q.0, q.1)) (duals_in m k a b d z)) f told) in
     leaf_told n cuts (duals_in n k a b d (other_lines text)) c end are here
     ∙ ap (λ o. option_map {T = Content × List ℕ} {U = Report × List ℕ} (λ q. (report_by n (map listed cuts) q.0, q.1)) (content_by n k o (other_lines text))) (sym line)
 

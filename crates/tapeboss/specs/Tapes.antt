@@ -1,5 +1,5 @@
 -- Tapes: lists of frames, each an event that the boss answers in its turn, up to the end or the first fault.
-use Rattle.std.specs.Prelude.{◌≡◌, ℕ, ◌+◌, ◌-◌, ◌^◌, ◌<◌, ◌≤◌, List, [], ◌∷◌, ◌++◌, length, take, drop, Option, Some, None, Ok, Err}
+use Rattle.std.specs.Prelude.{◌≡◌, ℕ, ◌+◌, ◌-◌, ◌^◌, ◌<◌, ◌≤◌, List, [], ◌++◌, length, take, drop, Option, Some, None, Ok, Err}
 use Rattle.bossx.specs.declared.events.Event.{Event}
 use Rattle.bossx.specs.declared.events.Reply.{Reply}
 use Rattle.bossx.specs.Books.{Book, best_length}

@@ -1,5 +1,5 @@
 -- One frame at a time.
-use Rattle.std.specs.Prelude.{◌≡◌, ℕ, ◌+◌, ◌<◌, ◌≤◌, ◌⊎◌, List, ◌++◌, length, drop, Err}
+use Rattle.std.specs.Prelude.{◌≡◌, ℕ, ◌+◌, ◌≤◌, ◌⊎◌, List, ◌++◌, length, drop, Err}
 use Rattle.bossx.specs.declared.events.Event.{Event}
 use Rattle.bossx.specs.declared.events.Reply.{Reply}
 use Rattle.bossx.specs.Books.{Book}

@@ -27,11 +27,7 @@ pub(crate) fn closing_of(
 }
 
 /// The dual of each of n cities: 0 where none is given, and where there are several the first.
-fn city_duals(
-    alloc: Global,
-    n: u32,
-    given: &[(u32, i64)],
-) -> Result<Vec<i64>, AllocError>
+fn city_duals(alloc: Global, n: u32, given: &[(u32, i64)]) -> Result<Vec<i64>, AllocError>
     ensures { IfOk result (λ v. v.items ≡ defs.duals_from given.now 1 n) }
 {
     let mut duals = zeros(alloc, n)?;

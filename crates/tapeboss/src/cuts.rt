@@ -57,11 +57,7 @@ fn read_cut(alloc: Global, lines: &mut Lines<'_>) -> Result<Option<Cut>, AllocEr
 }
 
 /// The comb of so many teeth whose handle comes next.
-fn read_comb(
-    alloc: Global,
-    lines: &mut Lines<'_>,
-    count: u32,
-) -> Result<Option<Cut>, AllocError>
+fn read_comb(alloc: Global, lines: &mut Lines<'_>, count: u32) -> Result<Option<Cut>, AllocError>
     requires many { 3 ≤ lines.old.n }
     requires few { lines.old.n ≤ 2000 }
     ensures value { IfOk result (λ o. option_map (λ c. (listed c, lines.new.rest.now)) o ≡ defs.comb_in lines.old.n count lines.old.rest.now) }
@@ -113,11 +109,7 @@ fn next_tooth(alloc: Global, lines: &mut Lines<'_>) -> Result<Option<CitySet>, A
 }
 
 /// The odd cut of so many pairs whose handle comes next.
-fn read_odd(
-    alloc: Global,
-    lines: &mut Lines<'_>,
-    count: u32,
-) -> Result<Option<Cut>, AllocError>
+fn read_odd(alloc: Global, lines: &mut Lines<'_>, count: u32) -> Result<Option<Cut>, AllocError>
     requires many { 3 ≤ lines.old.n }
     requires few { lines.old.n ≤ 2000 }
     ensures value { IfOk result (λ o. option_map (λ c. (listed c, lines.new.rest.now)) o ≡ defs.odd_in lines.old.n count lines.old.rest.now) }

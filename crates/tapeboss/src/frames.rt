@@ -14,12 +14,7 @@ use bossx::{Brought, Event};
 use std::alloc::Global;
 
 /// The event that a frame is, or its first fault: for n cities, and grunts from 1 to a most.
-pub(crate) fn hear(
-    alloc: Global,
-    n: u32,
-    grunts: u32,
-    bytes: &[u8],
-) -> Result<Event, FrameError>
+pub(crate) fn hear(alloc: Global, n: u32, grunts: u32, bytes: &[u8]) -> Result<Event, FrameError>
     requires many { 3 ≤ n }
     requires few { n ≤ 2000 }
     ensures hears { Hears result (defs.heard n grunts bytes.now) }

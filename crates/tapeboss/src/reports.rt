@@ -22,11 +22,7 @@ use std::alloc::{AllocError, Global};
 
 /// The report that a text for n cities says; none where it is not of the form, or lists what is no cut. O(1) for each byte, beside what the
 /// cuts cost, and O(n) for a closed leaf.
-pub(crate) fn read_report(
-    alloc: Global,
-    n: u32,
-    text: &[u8],
-) -> Result<Option<Report>, AllocError>
+pub(crate) fn read_report(alloc: Global, n: u32, text: &[u8]) -> Result<Option<Report>, AllocError>
     requires many { 3 ≤ n }
     requires few { n ≤ 2000 }
     ensures { IfOk result (λ o. o ≡ defs.report_in n text.now) }

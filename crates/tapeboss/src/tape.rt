@@ -229,12 +229,7 @@ fn stop(alloc: Global, fault: Fault, frame: u64, out: &mut Vec<u8>) -> TapeError
     }
 }
 
-fn put_fault(
-    alloc: Global,
-    fault: Fault,
-    frame: u64,
-    out: &mut Vec<u8>,
-) -> Result<(), AllocError>
+fn put_fault(alloc: Global, fault: Fault, frame: u64, out: &mut Vec<u8>) -> Result<(), AllocError>
     ensures { OnOk result (out.new.items ≡ out.old.items ++ fault_line (number_of fault) frame) }
 {
     let line = replies::fault_line(alloc, fault.number(), frame)?;

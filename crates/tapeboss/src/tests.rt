@@ -7,7 +7,8 @@ use std::alloc::Global;
 use std::test::Fail;
 
 /// Two grunts ask, one is gone and its lease lost, and both report the same split.
-const TWO_GRUNTS: &[u8] = b"\0\0\0\x05\x01\0\0\0\x01\0\0\0\x05\x01\0\0\0\x02\0\0\0\x05\x03\0\0\0\x01\0\0\0\x05\x01\0\0\0\x02\0\0\0\x12\x02\0\0\0\0CUTS 0\nE 1 3\n\0\0\0\x12\x02\0\0\0\x01CUTS 0\nE 1 3\n\0\0\0\x12\x02\0\0\0\x07CUTS 0\nE 1 3\n\0\0\0\x05\x01\0\0\0\x01";
+const TWO_GRUNTS: &[u8] =
+    b"\0\0\0\x05\x01\0\0\0\x01\0\0\0\x05\x01\0\0\0\x02\0\0\0\x05\x03\0\0\0\x01\0\0\0\x05\x01\0\0\0\x02\0\0\0\x12\x02\0\0\0\0CUTS 0\nE 1 3\n\0\0\0\x12\x02\0\0\0\x01CUTS 0\nE 1 3\n\0\0\0\x12\x02\0\0\0\x07CUTS 0\nE 1 3\n\0\0\0\x05\x01\0\0\0\x01";
 
 const TWO_GRUNTS_LINES: &str =
     "LEASED 0 0 40\nNOTYET\nLOST 0\nLEASED 1 0 40\nTAKEN\nSTALE\nUNKNOWN\nSPENT\nEND 1 2 40\n";
@@ -157,7 +158,10 @@ fn texts_of_splits_have_a_form(rt: HostRuntime) -> Result<(), Fail> {
         ("CUTS 1\nS 2 1 2\nE 1 3\n", "FRAME 3 1\n"),
         ("CUTS 1\nS 2 1 2\nK 2 1 3\n", "FRAME 3 1\n"),
     ];
-    assert_eq!(rt; first_other_text(rt.alloc(), b"\x02\0\0\0\x09", "", &table)?, None);
+    assert_eq!(rt;
+        first_other_text(rt.alloc(), b"\x02\0\0\0\x09", "", &table)?,
+        None
+    );
     Ok(())
 }
 
@@ -166,7 +170,10 @@ fn texts_of_leaves_have_a_form(rt: HostRuntime) -> Result<(), Fail> {
     let table = [
         ("CUTS 0\nL 0 0 0\n", "UNKNOWN\nEND 0 1 40\n"),
         ("CUTS 1\nS 2 1 2\nL 0 0 0\n", "UNKNOWN\nEND 0 1 40\n"),
-        ("CUTS 2\nS 1 1\nS 1 1\nL 1 2 1\nP 4 -1\nY 1 1\nY 2 9\nZ 7 1\n", "UNKNOWN\nEND 0 1 40\n"),
+        (
+            "CUTS 2\nS 1 1\nS 1 1\nL 1 2 1\nP 4 -1\nY 1 1\nY 2 9\nZ 7 1\n",
+            "UNKNOWN\nEND 0 1 40\n",
+        ),
         ("CUTS 0\nL 2 0 0\nP 2 1\nP 2 1\n", "FRAME 3 1\n"),
         ("CUTS 0\nL 1 0 0\nP 2 0\n", "FRAME 3 1\n"),
         ("CUTS 0\nL 1 0 0\n", "FRAME 3 1\n"),
@@ -177,7 +184,10 @@ fn texts_of_leaves_have_a_form(rt: HostRuntime) -> Result<(), Fail> {
         ("CUTS 0\nL 0 0 1\nY 1 1\n", "FRAME 3 1\n"),
         ("CUTS 0\nL 0 0 0\nO\n", "FRAME 3 1\n"),
     ];
-    assert_eq!(rt; first_other_text(rt.alloc(), b"\x02\0\0\0\x09", "", &table)?, None);
+    assert_eq!(rt;
+        first_other_text(rt.alloc(), b"\x02\0\0\0\x09", "", &table)?,
+        None
+    );
     Ok(())
 }
 
@@ -185,15 +195,30 @@ fn texts_of_leaves_have_a_form(rt: HostRuntime) -> Result<(), Fail> {
 fn texts_of_cuts_have_a_form(rt: HostRuntime) -> Result<(), Fail> {
     let table = [
         ("CUTS 1\nS 4 1 2 3 4\nL 0 0 0\n", "FRAME 3 1\n"),
-        ("CUTS 1\nC 3\nH 2 1 2\nT 1 1\nT 1 2\nT 1 3\nL 0 0 0\n", "FRAME 3 1\n"),
+        (
+            "CUTS 1\nC 3\nH 2 1 2\nT 1 1\nT 1 2\nT 1 3\nL 0 0 0\n",
+            "FRAME 3 1\n",
+        ),
         ("CUTS 1\nC 1\nH 2 1 2\nL 0 0 0\n", "FRAME 3 1\n"),
-        ("CUTS 1\nB 1\nH 1 1\nF 1 2\nL 0 0 0\n", "UNKNOWN\nEND 0 1 40\n"),
+        (
+            "CUTS 1\nB 1\nH 1 1\nF 1 2\nL 0 0 0\n",
+            "UNKNOWN\nEND 0 1 40\n",
+        ),
         ("CUTS 1\nB 1\nH 1 1\nF 2 3\nL 0 0 0\n", "FRAME 3 1\n"),
-        ("CUTS 1\nB 3\nH 1 1\nF 1 2\nF 1 3\nF 1 4\nL 0 0 0\n", "UNKNOWN\nEND 0 1 40\n"),
-        ("CUTS 1\nB 3\nH 1 1\nF 1 3\nF 1 2\nF 1 4\nL 0 0 0\n", "FRAME 3 1\n"),
+        (
+            "CUTS 1\nB 3\nH 1 1\nF 1 2\nF 1 3\nF 1 4\nL 0 0 0\n",
+            "UNKNOWN\nEND 0 1 40\n",
+        ),
+        (
+            "CUTS 1\nB 3\nH 1 1\nF 1 3\nF 1 2\nF 1 4\nL 0 0 0\n",
+            "FRAME 3 1\n",
+        ),
         ("CUTS 1\nL 0 0 0\n", "FRAME 3 1\n"),
         ("CUTS 4294967295\nS 1 1\nL 0 0 0\n", "FRAME 3 1\n"),
     ];
-    assert_eq!(rt; first_other_text(rt.alloc(), b"\x02\0\0\0\x09", "", &table)?, None);
+    assert_eq!(rt;
+        first_other_text(rt.alloc(), b"\x02\0\0\0\x09", "", &table)?,
+        None
+    );
     Ok(())
 }

@@ -13,11 +13,11 @@ returns-in_default-clause-value c =
 
 pub loop-preserved : goal.loop-preserved
 loop-preserved c = record {
-    n = c.in_ok-dual.ensures.same ∙ c.loop.invariant.n;
-    listed = refl;
-    read = one_read (λ n. defs.next_cut_dual n c.args.listed) (λ p. p) c.args.lines.now.n c.loop.lines.n c.args.count c.loop.counter c.loop.duals.items c.deref.result.now c.push.new.self.items c.loop.lines.rest.now c.next_cut_dual.new.lines.rest.now
-        c.in_ok-dual.field-0 c.in-Some.dual (defs.cut_duals_on c.args.lines.now.n c.args.listed [] c.args.count c.args.lines.now.rest.now)
-        c.loop-test.true c.loop.invariant.n c.deref.ensures.value c.in_ok-dual.ensures.value c.in-Some.is c.in_ok-push.ensures.items c.loop.invariant.read;
-    numbers = subst (AllByRecursion (λ q. IsFromOne c.args.listed q.0)) (sym c.in_ok-push.ensures.items)
-        (all_and_one (λ q. IsFromOne c.args.listed q.0) c.loop.duals.items c.in-Some.dual c.loop.invariant.numbers (rw c.in-Some.is at c.in_ok-dual.ensures.number));
+  n = c.in_ok-dual.ensures.same ∙ c.loop.invariant.n;
+  listed = refl;
+  read = one_read (λ n. defs.next_cut_dual n c.args.listed) (λ p. p) c.args.lines.now.n c.loop.lines.n c.args.count c.loop.counter c.loop.duals.items c.deref.result.now c.push.new.self.items c.loop.lines.rest.now c.next_cut_dual.new.lines.rest.now
+      c.in_ok-dual.field-0 c.in-Some.dual (defs.cut_duals_on c.args.lines.now.n c.args.listed [] c.args.count c.args.lines.now.rest.now)
+      c.loop-test.true c.loop.invariant.n c.deref.ensures.value c.in_ok-dual.ensures.value c.in-Some.is c.in_ok-push.ensures.items c.loop.invariant.read;
+  numbers = subst (AllByRecursion (λ q. IsFromOne c.args.listed q.0)) (sym c.in_ok-push.ensures.items)
+      (all_and_one (λ q. IsFromOne c.args.listed q.0) c.loop.duals.items c.in-Some.dual c.loop.invariant.numbers (rw c.in-Some.is at c.in_ok-dual.ensures.number));
 }

@@ -1,4 +1,4 @@
-use Rattle.std.proofs.Common.{◌≡◌, Some, true, sym, ap, ◌∙◌, subst, arith}
+use Rattle.std.proofs.Common.{◌≡◌, Some, true, sym, ◌∙◌, subst, arith}
 use Rattle.std.proofs.lemmas.Option.{MatchOption-at_some, MatchOption-at_none}
 use Rattle.std.proofs.lemmas.Result.{IfOk-weaker}
 use Rattle.certdef.specs.Accepted.{from_zero}
@@ -21,4 +21,4 @@ returns c =
     let over : are_over (other_lines c.args.text.now) ≡ true = grind (arith, c.are_over.ensures, c.if-not-are_over.false, c.in_ok-cities.ensures.rest, c.new-lines.ensures) in
     let got = MatchOption-at_some _ _ c.in-Some-2.numbers c.in-Some-2.is c.in_ok-numbers.ensures in
     IfOk-weaker c.tour_of.result _ _ (λ o h. tour_made c.args.n cs c.in-Some-2.numbers.items o (subst (AreFromOne c.args.n) c.deref.ensures.value got.0) (subst (λ ds. c.in-Some-2.numbers.items ≡ from_zero ds) c.deref.ensures.value got.1) h
-        ∙ sym (of_last_line c.args.n c.args.text.now cs line over)) c.tour_of.ensures
+    ∙ sym (of_last_line c.args.n c.args.text.now cs line over)) c.tour_of.ensures
