@@ -1,5 +1,6 @@
 //! Laws of the definitions.
 
+ghost use Rattle.onetree.specs.Answers.{AnswersAreOne};
 ghost use Rattle.onetree.specs.Laws.{ToursAreOneTrees, ToursMeetTwice, HeldKarpIsBelow, NoTourIsShorter, HeldKarpIsOne};
 
 /// A tour is a one-tree that meets each city twice, so that the Held-Karp value of any duals is a lower bound on the length of each
@@ -10,4 +11,9 @@ pub fn tours_are_one_trees()
     ensures below { HeldKarpIsBelow }
     ensures shorter { NoTourIsShorter }
     ensures one { HeldKarpIsOne }
+{}
+
+/// Bytes have one answer: they are accepted with one bound, or refused with one number at one line.
+pub fn answers_are_one()
+    ensures { AnswersAreOne }
 {}
