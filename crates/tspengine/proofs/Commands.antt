@@ -1,6 +1,6 @@
 -- From how a command ends to how a call of `run` ends.
 use Rattle.std.proofs.Common.{◌≡◌, ℕ, ◌<◌, List, [], ◌∷◌, refl, sym, subst, ◌∙◌, ◌⊎◌, inl, inr, Option, arith}
-use Rattle.std.specs.Prelude.{codes, Bool, true, false}
+use Rattle.std.specs.Prelude.{codes, true, false}
 use Rattle.std.specs.Str.{bytes_eq}
 use Rattle.clap.specs.Walk.{Text}
 use Rattle.clap.specs.Faults.{fault_of}
