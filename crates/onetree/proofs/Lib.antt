@@ -8,4 +8,4 @@ pub mod CertificateLemmas
 pub mod DualLemmas
 pub mod JudgingLemmas
 pub mod OneAnswer
-mod Accepting
+pub mod WrittenLemmas

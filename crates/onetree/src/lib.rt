@@ -27,7 +27,7 @@ pub use answer::{Answer, CheckError};
 pub use ascent::ascend;
 pub use checking::check;
 pub use error::WriteError;
-pub use laws::{answers_are_one, tours_are_one_trees};
+pub use laws::{answers_are_one, tours_are_one_trees, written_is_accepted};
 pub use tree::{OneTree, least_tree};
 pub use value::{held_karp, proved_length};
 pub use writing::{bound_of, write};

@@ -3,7 +3,7 @@ ghost use Rattle.std.specs.Prelude.{◌≡◌, ℤ, neg_ℤ, pos, ◌<ℤ◌, If
 ghost use Rattle.ports.specs.Outside.{Cause};
 ghost use Rattle.tspdef.specs.Bounds.{scale};
 ghost use Rattle.onetree.specs.OneTrees.{AreDuals, IsHeldKarp};
-ghost use Rattle.onetree.specs.Certificates.{text, certificate_of, IsAccepted, IsBoundOf};
+ghost use Rattle.onetree.specs.Certificates.{text, certificate_of, IsBoundOf};
 ghost use Rattle.onetree.specs.Told.{AddsCertificate, AddsFront};
 
 use crate::error::WriteError;
@@ -13,8 +13,7 @@ use ports::{Desk, Outlet, write_all};
 use std::alloc::{AllocError, Global};
 use tspinst::Instance;
 
-/// Writes the certificate of some duals with the greatest bound that they prove, which is accepted, to the outlet of proofs, and gives
-/// the bound. All memory is
+/// Writes the certificate of some duals with the greatest bound that they prove to the outlet of proofs, and gives the bound. All memory is
 /// taken before the first byte is written. It takes O(n^2).
 ///
 /// # Errors
@@ -30,13 +29,11 @@ pub fn write<D: Desk>(
     requires duals { AreDuals instance.now.n duals.now }
     requires some { (h : ℤ) → IsHeldKarp instance.now duals.now h → neg_ℤ (pos scale) <ℤ h }
     ensures written { IfOk result (λ b. AddsCertificate instance.now duals.now b (D.told desk.old) (D.told desk.new)) }
-    ensures accepted { IfOk result (λ b. IsAccepted instance.now (text (certificate_of duals.now b)) b) }
     ensures no_memory { IsErrOf result WriteError.NoMemory → D.told desk.new ≡ D.told desk.old }
     ensures front { IsErrOf result WriteError.Failed → AddsFront instance.now duals.now (D.told desk.old) (D.told desk.new) }
     ensures cause { Cause (IsErrOf result WriteError.Failed) (D.write_faults desk.old) (D.write_faults desk.new) }
     ensures same { D.read_faults desk.new ≡ D.read_faults desk.old }
 {
-    let _known = instance.n();
     let bound = bound_of(alloc, instance, duals)?;
     let bytes = certificate(alloc, duals, bound)?;
     write_all(desk, Outlet::Proof, &bytes)?;

@@ -12,7 +12,7 @@ ghost use Rattle.tspengine.specs.Bounding.{Bounds, IsRaisedBy};
 use crate::bound_texts::bound_text;
 use crate::publishing::refuse;
 use crate::statuses::Status;
-use onetree::{WriteError, ascend, bound_of, tours_are_one_trees, write};
+use onetree::{WriteError, ascend, bound_of, tours_are_one_trees, write, written_is_accepted};
 use ports::{Desk, Outlet, write_all};
 use std::alloc::{AllocError, Global};
 use tspinst::Instance;
@@ -74,6 +74,7 @@ fn certify<D: Desk>(
     ensures same { D.read_faults desk.new ≡ D.read_faults desk.old }
 {
     tours_are_one_trees();
+    written_is_accepted();
     let _known = instance.n();
     if desk.bind_out(Outlet::Proof, path).is_err() {
         return Status::WriteFault;

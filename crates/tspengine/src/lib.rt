@@ -35,6 +35,8 @@ mod failing_calls;
 #[cfg(test)]
 mod fixed_edges;
 #[cfg(test)]
+mod hostile_rounds;
+#[cfg(test)]
 mod resumed_runs;
 #[cfg(test)]
 mod tests;

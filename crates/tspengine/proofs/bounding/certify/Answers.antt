@@ -23,7 +23,9 @@ returns-in-Ok-Ok-clause-ends g c = λ call is path kept read.
     let bind = subst (λ (w : List ℕ). BothTell (λ t u. u ≡ with_outlet_path w t) b d) path
     (on_ok c.bind_out.result (sym c.is_err.ensures.value ∙ c.if-is_err.false) c.bind_out.ensures.bound) in
     bounded c.tours_are_one_trees.ensures.one c.tours_are_one_trees.ensures.shorter (on_desk call.before.desk f call) c.args.instance.now c.args.raised.now
-    c.in-Ok.field-0 b d e c.n-known.ensures.instance.many is kept c.in-Ok.ensures.accepted read bind c.in-Ok.ensures.written c.in-Ok-Ok.ensures.all
+    c.in-Ok.field-0 b d e c.n-known.ensures.instance.many is kept
+    (c.written_is_accepted.ensures c.args.instance.now c.args.raised.now.duals.items c.in-Ok.field-0 c.n-known.ensures.instance c.requires.duals c.in-Ok.ensures.written.0)
+    read bind c.in-Ok.ensures.written c.in-Ok-Ok.ensures.all
 
 pub returns-in-Ok-Err-clause-ends : goal.returns-in-Ok-Err-clause-ends
 returns-in-Ok-Err-clause-ends g c = λ call is path kept read.
