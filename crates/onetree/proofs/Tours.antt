@@ -1,5 +1,5 @@
 use Rattle.std.proofs.Common.{◌≡◌, ℕ, ◌+◌, ◌*◌, ◌<◌, ◌≤◌, Bool, true, false, cond, eqb, not, ◌||◌, ◌&&◌, List, [], ◌∷◌, length, refl, sym, ◌∙◌, ap, arith, add-one, ⊎_elim}
-use Rattle.std.specs.Prelude.{ℤ, pos, ◌+ℤ◌}
+use Rattle.std.specs.Prelude.{ℤ, pos, ◌+ℤ◌, ◌≤ℤ◌}
 use Rattle.std.specs.List.{AllByRecursion}
 use Rattle.std.proofs.lemmas.Int.{ints}
 use Rattle.std.proofs.lemmas.Bool.{cases_Bool, cases_eq, cond-true, cond-false, eq-eqb, ne_eqb, eqb-true, or_parts, and_parts, false_from_ne_true}
@@ -10,7 +10,7 @@ use Rattle.tspdef.specs.Bounds.{scale}
 use Rattle.tspdef.proofs.SumLemmas.{sum_below-at}
 use Rattle.tspdef.proofs.Steps.{sum_steps, AreDistinctSteps, AreWithin, has_step_at, tour_steps_distinct, tour_steps_within, tour_has, tour_ends}
 use Rattle.tspdef.proofs.CrossingLemmas.{tour_crosses}
-use Rattle.onetree.specs.OneTrees.{is_end, degree, times_joined, elsewhere, IsPair, Connects, weight, dual_of, reduced}
+use Rattle.onetree.specs.OneTrees.{is_end, degree, times_joined, elsewhere, IsPair, Connects, weight, dual_of, reduced, IsHeldKarp}
 use Rattle.onetree.specs.Laws.{ToursAreOneTrees, ToursMeetTwice, HeldKarpIsBelow, NoTourIsShorter, HeldKarpIsOne}
 
 -- ---- the steps of a tour are pairs, and n of them
@@ -142,6 +142,16 @@ tours_are_one_trees n tour h t = record {
 steps_weight : (i : Instance) (p : List ℤ) (es : List (ℕ × ℕ)) → weight (reduced i p) es +ℤ sum_steps (λ u v. dual_of p u +ℤ dual_of p v) es ≡ pos (scale * travelled (dist i) es)
 steps_weight i p [] = refl
 steps_weight i p (e ∷ es) = let ih = steps_weight i p es in omega (arith, ints)
+
+pub below_each_tour : (i : Instance) (p : List ℤ) (h : ℤ) (tour : List ℕ) → 3 ≤ i.n → IsTour i.n tour → IsHeldKarp i p h → h ≤ℤ pos (scale * travelled (dist i) (steps tour))
+below_each_tour i p h tour many t (w, least, is) =
+    let below = least.1 (steps tour) (tours_are_one_trees i.n tour many t) in
+    let all = steps_weight i p (steps tour) in
+    let ends = tour_ends (dual_of p) i.n tour t in
+    omega (arith, ints)
+
+pub steps_of : (n : ℕ) (tour : List ℕ) → IsTour n tour → length (steps tour) ≡ n
+steps_of n tour t = steps_length tour ∙ t.all
 
 pub held_karp_is_below : HeldKarpIsBelow
 held_karp_is_below i p h tour many t (w, least, is) =

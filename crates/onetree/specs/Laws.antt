@@ -1,9 +1,10 @@
 -- What the bound rests on.
 use Rattle.std.specs.Prelude.{◌≡◌, ℕ, ◌*◌, ◌<◌, ◌≤◌, List, ℤ, pos, ◌≤ℤ◌, ◌<ℤ◌}
 use Rattle.tspdef.specs.Tours.{IsTour, steps}
-use Rattle.tspdef.specs.Instances.{Instance, IsTourOf, length_in}
+use Rattle.tspdef.specs.Instances.{Instance, IsInstance, IsTourOf, length_in}
 use Rattle.tspdef.specs.Bounds.{scale, needed}
-use Rattle.onetree.specs.OneTrees.{IsOneTree, degree, IsHeldKarp}
+use Rattle.onetree.specs.OneTrees.{IsOneTree, degree, IsHeldKarp, AreDuals}
+use Rattle.onetree.specs.Certificates.{IsAccepted, IsBoundOf, text, certificate_of}
 
 -- A tour is a one-tree.
 abbrev pub ToursAreOneTrees : Type 0
@@ -26,3 +27,7 @@ NoTourIsShorter = (i : Instance) (p : List ℤ) (h : ℤ) (b : ℕ) (tour : List
 -- Some duals have one Held-Karp value at most.
 abbrev pub HeldKarpIsOne : Type 0
 HeldKarpIsOne = (i : Instance) (p : List ℤ) (h k : ℤ) → IsHeldKarp i p h → IsHeldKarp i p k → h ≡ k
+
+-- The certificate of some duals with the greatest bound that they prove is accepted with it.
+abbrev pub WrittenIsAccepted : Type 0
+WrittenIsAccepted = (i : Instance) (p : List ℤ) (b : ℕ) → IsInstance i → AreDuals i.n p → IsBoundOf i p b → IsAccepted i (text (certificate_of p b)) b

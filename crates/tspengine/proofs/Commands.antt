@@ -1,12 +1,13 @@
 -- From how a command ends to how a call of `run` ends.
 use Rattle.std.proofs.Common.{◌≡◌, ℕ, ◌<◌, List, [], ◌∷◌, refl, sym, subst, ◌∙◌, ◌⊎◌, inl, inr, Option, arith}
-use Rattle.std.specs.Prelude.{codes}
+use Rattle.std.specs.Prelude.{codes, true, false}
+use Rattle.std.specs.Str.{bytes_eq}
 use Rattle.clap.specs.Walk.{Text}
 use Rattle.clap.specs.Faults.{fault_of}
 use Rattle.ports.specs.Outside.{BothTell, Cause}
 use Rattle.ports.specs.Desk.{Told}
 use Rattle.tspwords.specs.Laws.{TakenWordsAreGiven}
-use Rattle.tspwords.specs.Program.{program, IsTaken, IsSolveCall, IsVerifyCall, IsTourCall, IsBenchCall, instance_word}
+use Rattle.tspwords.specs.Program.{program, IsTaken, IsCallOf, IsSolveCall, IsVerifyCall, IsTourCall, IsBenchCall, IsReplayCall, IsBoundCall, IsCheckboundCall, instance_word}
 use Rattle.verification.specs.Transfers.{TouchesInstance}
 use Rattle.verification.specs.Runs.{IsSilent}
 use Rattle.verification.proofs.Tells.{both_same}
@@ -15,6 +16,7 @@ use Rattle.tspengine.specs.Solving.{Solves}
 use Rattle.tspengine.specs.Verifying.{paths_of, Verifies}
 use Rattle.tspengine.specs.Touring.{Tours}
 use Rattle.tspengine.specs.Benching.{Benches}
+use Rattle.tspengine.specs.Bounding.{Bounds, ChecksBound, paths_of_bound}
 use Rattle.tspengine.specs.Usages.{Uses}
 use Rattle.tspengine.specs.Runs.{Ends, HasCauses}
 use Rattle.tspengine.specs.declared.statuses.Status.{Status}
@@ -64,6 +66,10 @@ verify_or_bench words a b = verify_not_bench (sym a.named ∙ b.named)
 tour_or_bench : (words : List Text) → IsTourCall words → IsBenchCall words → ⊥
 tour_or_bench words a b = tour_not_bench (sym a.named ∙ b.named)
 
+-- words that name one command name no other
+other_call : (words : List Text) → (a b : Text) → bytes_eq a a ≡ true → bytes_eq a b ≡ false → IsCallOf a words → IsCallOf b words → ⊥
+other_call words a b same differ x y = let e : a ≡ b = sym x.named ∙ y.named in let f : true ≡ false = sym same ∙ ap (bytes_eq a) e ∙ differ in cc
+
 pub ends_solve : (s : Status) (c : Call) → IsSolveCall c.words → Solves s c → Ends s c
 ends_solve s c call ends = record {
   words = inl call;
@@ -71,6 +77,8 @@ ends_solve s c call ends = record {
   verify = λ other. absurd (solve_or_verify c.words call other);
   tour = λ other. absurd (solve_or_tour c.words call other);
   bench = λ other. absurd (solve_or_bench c.words call other);
+  bound = λ other. absurd (other_call c.words (codes "solve") (codes "bound") refl refl call other);
+  checkbound = λ other. absurd (other_call c.words (codes "solve") (codes "checkbound") refl refl call other);
   usage = λ none. absurd (none call.taken);
 }
 
@@ -81,6 +89,8 @@ ends_verify s c call ends = record {
   verify = λ _. ends;
   tour = λ other. absurd (verify_or_tour c.words call other);
   bench = λ other. absurd (verify_or_bench c.words call other);
+  bound = λ other. absurd (other_call c.words (codes "verify") (codes "bound") refl refl call other);
+  checkbound = λ other. absurd (other_call c.words (codes "verify") (codes "checkbound") refl refl call other);
   usage = λ none. absurd (none call.taken);
 }
 
@@ -91,6 +101,8 @@ ends_tour s c call ends = record {
   verify = λ other. absurd (verify_or_tour c.words other call);
   tour = λ _. ends;
   bench = λ other. absurd (tour_or_bench c.words call other);
+  bound = λ other. absurd (other_call c.words (codes "tour") (codes "bound") refl refl call other);
+  checkbound = λ other. absurd (other_call c.words (codes "tour") (codes "checkbound") refl refl call other);
   usage = λ none. absurd (none call.taken);
 }
 
@@ -101,16 +113,57 @@ ends_bench s c call ends = record {
   verify = λ other. absurd (verify_or_bench c.words other call);
   tour = λ other. absurd (tour_or_bench c.words other call);
   bench = λ _. ends;
+  bound = λ other. absurd (other_call c.words (codes "bench") (codes "bound") refl refl call other);
+  checkbound = λ other. absurd (other_call c.words (codes "bench") (codes "checkbound") refl refl call other);
+  usage = λ none. absurd (none call.taken);
+}
+
+-- no promise is made of `replay` yet
+pub ends_replay : (s : Status) (c : Call) → IsReplayCall c.words → Ends s c
+ends_replay s c call = record {
+  words = inr (inr (inr (inr (inl call))));
+  solve = λ other. absurd (other_call c.words (codes "replay") (codes "solve") refl refl call other);
+  verify = λ other. absurd (other_call c.words (codes "replay") (codes "verify") refl refl call other);
+  tour = λ other. absurd (other_call c.words (codes "replay") (codes "tour") refl refl call other);
+  bench = λ other. absurd (other_call c.words (codes "replay") (codes "bench") refl refl call other);
+  bound = λ other. absurd (other_call c.words (codes "replay") (codes "bound") refl refl call other);
+  checkbound = λ other. absurd (other_call c.words (codes "replay") (codes "checkbound") refl refl call other);
+  usage = λ none. absurd (none call.taken);
+}
+
+pub ends_bound : (s : Status) (c : Call) → IsBoundCall c.words → Bounds s c → Ends s c
+ends_bound s c call ends = record {
+  words = inr (inr (inr (inr (inr (inl call)))));
+  solve = λ other. absurd (other_call c.words (codes "bound") (codes "solve") refl refl call other);
+  verify = λ other. absurd (other_call c.words (codes "bound") (codes "verify") refl refl call other);
+  tour = λ other. absurd (other_call c.words (codes "bound") (codes "tour") refl refl call other);
+  bench = λ other. absurd (other_call c.words (codes "bound") (codes "bench") refl refl call other);
+  bound = λ _. ends;
+  checkbound = λ other. absurd (other_call c.words (codes "bound") (codes "checkbound") refl refl call other);
+  usage = λ none. absurd (none call.taken);
+}
+
+pub ends_checkbound : (s : Status) (c : Call) → IsCheckboundCall c.words → ChecksBound s c → Ends s c
+ends_checkbound s c call ends = record {
+  words = inr (inr (inr (inr (inr (inr (inl call))))));
+  solve = λ other. absurd (other_call c.words (codes "checkbound") (codes "solve") refl refl call other);
+  verify = λ other. absurd (other_call c.words (codes "checkbound") (codes "verify") refl refl call other);
+  tour = λ other. absurd (other_call c.words (codes "checkbound") (codes "tour") refl refl call other);
+  bench = λ other. absurd (other_call c.words (codes "checkbound") (codes "bench") refl refl call other);
+  bound = λ other. absurd (other_call c.words (codes "checkbound") (codes "bound") refl refl call other);
+  checkbound = λ _. ends;
   usage = λ none. absurd (none call.taken);
 }
 
 pub ends_usage : (s : Status) (c : Call) → ¬ IsTaken c.words → Uses s c → Ends s c
 ends_usage s c none ends = record {
-  words = inr (inr (inr (inr none)));
+  words = inr (inr (inr (inr (inr (inr (inr none))))));
   solve = λ call. absurd (none call.taken);
   verify = λ call. absurd (none call.taken);
   tour = λ call. absurd (none call.taken);
   bench = λ call. absurd (none call.taken);
+  bound = λ call. absurd (none call.taken);
+  checkbound = λ call. absurd (none call.taken);
   usage = λ _. ends;
 }
 
@@ -120,18 +173,21 @@ empty_or_not : {A : Type 0} (xs : List A) → (xs ≡ []) ⊎ ¬ (xs ≡ [])
 empty_or_not [] = inl refl
 empty_or_not (x ∷ xs) = inr (λ (e : (x ∷ xs) ≡ []). cc)
 
-which_call : (words : List Text) → TakenWordsAreGiven → IsTaken words → IsSolveCall words ⊎ IsVerifyCall words ⊎ IsTourCall words ⊎ IsBenchCall words ⊎ ¬ IsTaken words
+which_call : (words : List Text) → TakenWordsAreGiven → IsTaken words → IsSolveCall words ⊎ IsVerifyCall words ⊎ IsTourCall words ⊎ IsBenchCall words ⊎ IsReplayCall words ⊎ IsBoundCall words ⊎ IsCheckboundCall words ⊎ ¬ IsTaken words
 which_call words given taken = elim (given words taken) [
   | inl x ↦ inl x.named
   | inr (inl x) ↦ inr (inl x.named)
   | inr (inr (inl x)) ↦ inr (inr (inl x.named))
-  | inr (inr (inr x)) ↦ inr (inr (inr (inl x.named)))
+  | inr (inr (inr (inl x))) ↦ inr (inr (inr (inl x.named)))
+  | inr (inr (inr (inr (inl x)))) ↦ inr (inr (inr (inr (inl x.named))))
+  | inr (inr (inr (inr (inr (inl x))))) ↦ inr (inr (inr (inr (inr (inl x.named)))))
+  | inr (inr (inr (inr (inr (inr x))))) ↦ inr (inr (inr (inr (inr (inr (inl x.named))))))
 ]
 
-pub which_words : (words : List Text) → TakenWordsAreGiven → IsSolveCall words ⊎ IsVerifyCall words ⊎ IsTourCall words ⊎ IsBenchCall words ⊎ ¬ IsTaken words
+pub which_words : (words : List Text) → TakenWordsAreGiven → IsSolveCall words ⊎ IsVerifyCall words ⊎ IsTourCall words ⊎ IsBenchCall words ⊎ IsReplayCall words ⊎ IsBoundCall words ⊎ IsCheckboundCall words ⊎ ¬ IsTaken words
 which_words words given = elim (empty_or_not (fault_of program words)) [
   | inl taken ↦ which_call words given taken
-  | inr none ↦ inr (inr (inr (inr none)))
+  | inr none ↦ inr (inr (inr (inr (inr (inr (inr none))))))
 ]
 
 -- ---- who never answers which fault
@@ -159,6 +215,25 @@ bench_reads s c ends f = elim ends [
   | inr (inl (e, x, l)) ↦ let g : status.BenchStopped ≡ status.ReadFault = sym e ∙ f in cc
   | inr (inr (inl (e, x))) ↦ let g : status.WriteFault ≡ status.ReadFault = sym e ∙ f in cc
   | inr (inr (inr (e, x))) ↦ let g : status.NoMemory ≡ status.ReadFault = sym e ∙ f in cc
+]
+
+bound_stores : (s : Status) (c : Call) → Bounds s c → s ≡ status.StoreFault → ⊥
+bound_stores s c ends f = elim ends [
+  | inl (e, x) ↦ let g : status.Bounded ≡ status.StoreFault = sym e ∙ f in cc
+  | inr (inl (e, x)) ↦ let g : status.BadInstance ≡ status.StoreFault = sym e ∙ f in cc
+  | inr (inr (inl (e, x))) ↦ let g : status.ReadFault ≡ status.StoreFault = sym e ∙ f in cc
+  | inr (inr (inr (inl (e, x)))) ↦ let g : status.WriteFault ≡ status.StoreFault = sym e ∙ f in cc
+  | inr (inr (inr (inr (e, x)))) ↦ let g : status.NoMemory ≡ status.StoreFault = sym e ∙ f in cc
+]
+
+checkbound_stores : (s : Status) (c : Call) → ChecksBound s c → s ≡ status.StoreFault → ⊥
+checkbound_stores s c ends f = elim ends [
+  | inl (e, x) ↦ let g : status.Checked ≡ status.StoreFault = sym e ∙ f in cc
+  | inr (inl (e, x)) ↦ let g : status.BoundRefused ≡ status.StoreFault = sym e ∙ f in cc
+  | inr (inr (inl (e, x))) ↦ let g : status.BadInstance ≡ status.StoreFault = sym e ∙ f in cc
+  | inr (inr (inr (inl (e, x)))) ↦ let g : status.ReadFault ≡ status.StoreFault = sym e ∙ f in cc
+  | inr (inr (inr (inr (inl (e, x))))) ↦ let g : status.WriteFault ≡ status.StoreFault = sym e ∙ f in cc
+  | inr (inr (inr (inr (inr (e, x))))) ↦ let g : status.NoMemory ≡ status.StoreFault = sym e ∙ f in cc
 ]
 
 usage_stores : (s : Status) (c : Call) → Uses s c → s ≡ status.StoreFault → ⊥
@@ -223,6 +298,24 @@ causes_bench s c ends same unread writes = record {
   other_stores = λ _. same;
 }
 
+pub causes_bound : (s : Status) (c : Call) → Bounds s c → c.after.store_faults ≡ c.before.store_faults
+    → Cause (s ≡ status.ReadFault) c.before.read_faults c.after.read_faults → Cause (s ≡ status.WriteFault) c.before.write_faults c.after.write_faults → HasCauses s c
+causes_bound s c ends same reads writes = record {
+  reads = reads;
+  writes = writes;
+  store = quiet (s ≡ status.StoreFault) c.before.store_faults c.after.store_faults same (bound_stores s c ends);
+  other_stores = λ _. same;
+}
+
+pub causes_checkbound : (s : Status) (c : Call) → ChecksBound s c → c.after.store_faults ≡ c.before.store_faults
+    → Cause (s ≡ status.ReadFault) c.before.read_faults c.after.read_faults → Cause (s ≡ status.WriteFault) c.before.write_faults c.after.write_faults → HasCauses s c
+causes_checkbound s c ends same reads writes = record {
+  reads = reads;
+  writes = writes;
+  store = quiet (s ≡ status.StoreFault) c.before.store_faults c.after.store_faults same (checkbound_stores s c ends);
+  other_stores = λ _. same;
+}
+
 pub causes_usage : (s : Status) (c : Call) → Uses s c → c.after.store_faults ≡ c.before.store_faults → c.after.read_faults ≡ c.before.read_faults
     → Cause (s ≡ status.WriteFault) c.before.write_faults c.after.write_faults → HasCauses s c
 causes_usage s c ends same unread writes = record {
@@ -266,5 +359,11 @@ ends_idle c given idle = elim (which_words c.words given) [
   | inr (inl call) ↦ ends_verify status.NoMemory c call (verify_idle c idle)
   | inr (inr (inl call)) ↦ ends_tour status.NoMemory c call (inr (inr (inr (inr (refl, record { desk = untouched c idle; slots = idle.slots })))))
   | inr (inr (inr (inl call))) ↦ ends_bench status.NoMemory c call (inr (inr (inr (refl, record { desk = idle.desk; slots = idle.slots }))))
-  | inr (inr (inr (inr none))) ↦ ends_usage status.NoMemory c none (inr (inr (refl, record { desk = idle.desk; slots = idle.slots })))
+  | inr (inr (inr (inr (inl call)))) ↦ ends_replay status.NoMemory c call
+  | inr (inr (inr (inr (inr (inl call))))) ↦ ends_bound status.NoMemory c call (inr (inr (inr (inr (refl, inl (record { desk = untouched c idle; slots = idle.slots }))))))
+  | inr (inr (inr (inr (inr (inr (inl call)))))) ↦ ends_checkbound status.NoMemory c call (inr (inr (inr (inr (inr (refl, record {
+      desk = both_same (IsSilent (paths_of_bound c.words)) (λ (t : Told). inl refl) c.before.desk c.after.desk idle.desk;
+      slots = idle.slots;
+    }))))))
+  | inr (inr (inr (inr (inr (inr (inr none)))))) ↦ ends_usage status.NoMemory c none (inr (inr (refl, record { desk = idle.desk; slots = idle.slots })))
 ]

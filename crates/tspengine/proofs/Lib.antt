@@ -9,5 +9,7 @@ mod Joining
 mod Tours
 mod Benches
 mod Verifies
+mod Bounds
+mod Checkbounds
 mod Commands
 mod Completions

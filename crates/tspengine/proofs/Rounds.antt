@@ -15,13 +15,16 @@ use Rattle.slotstore.proofs.Told.{both_both}
 use Rattle.verification.proofs.Tells.{both_to, both_then, both_same}
 use Rattle.worker.specs.Splits.{Splits, IsNeededSplit}
 use Rattle.bossx.specs.Books.{Book, Start}
-use Rattle.bossx.specs.Laws.{IsSameStart}
+use Rattle.bossx.specs.declared.events.Reply.{Reply}
+use Rattle.bossx.specs.Laws.{IsSameStart, IsChargedFor, taken_with}
 use Rattle.tspround.specs.Splits.{SplitSince}
 use Rattle.tspround.specs.Alone.{IsAlone, IsSplitBy}
+use Rattle.tspround.specs.Rounds.{IsRound}
+use Rattle.tspround.specs.declared.seat.Counts.{Counts}
 use Rattle.tspengine.specs.Starts as starts
 use Rattle.tspengine.specs.Saves.{IsBodyOn}
 use Rattle.tspengine.specs.Searches.{start_in, IsSearch, IsTextOfBook}
-use Rattle.tspengine.specs.Rounds.{IsBodyFrom, IsFurther, KeepsSlots, SavesOne, FailsToSave, SavesSome, SavesUntil, Searches}
+use Rattle.tspengine.specs.Rounds.{IsBodyFrom, IsDismissed, IsFurther, KeepsSlots, SavesOne, FailsToSave, SavesSome, SavesUntil, Searches}
 use Rattle.tspengine.specs.declared.starting.Halt.{Halt}
 use Rattle.tspengine.specs.declared.starting.Halt.TheVariants as halt
 use Rattle.tspengine.proofs.Storing.{none_saved, saved_more, failed_more, since_both}
@@ -88,6 +91,26 @@ few_kept b new same few = subst (λ (s : Start). length s.nodes + 2 * new.budget
 -- a search that went on by turns
 pub search_on : (turns : ℕ) (b new : Book) → IsSearch b → IsAlone IsNeededSplit turns b new → IsSearch new
 search_on turns b new search went = record { few = few_kept b new went.start search.few; splits = went.splits }
+
+-- one part of a search after another
+pub further_then : (b mid new : Book) → IsFurther b mid → IsFurther mid new → IsFurther b new
+further_then b mid new p q = record { start = same_then b mid new p.start q.start; search = q.search }
+
+-- what a round and the end of its leases leave is a search from the same start
+pub round_further : (b mid new : Book) (counts : List Counts) → IsSearch b → IsRound IsNeededSplit b mid counts → IsDismissed mid new → IsFurther b new
+round_further b mid new counts search went gone =
+    let start = same_then b mid new went.start gone.start in
+    record { start = start; search = record { few = few_kept b new start search.few; splits = splits_kept IsNeededSplit mid new gone.start gone.tree went.splits } }
+
+pub not_dismissed : (b : Book) → IsDismissed b b
+not_dismissed b = record { start = record { instance = refl; budget = refl; grunts = refl; gap = refl; start = refl }; tree = refl; settled = refl }
+
+-- one grunt more is gone
+pub dismissed_more : (b mid new : Book) (r : Reply) → taken_with r ≡ 0 → IsDismissed b mid → IsChargedFor mid new r → IsDismissed b new
+dismissed_more b mid new r none was c =
+    let settles = c.settled in
+    let before = was.settled in
+    record { start = same_then b mid new was.start c.start; tree = c.tree none ∙ was.tree; settled = omega (arith, settles, before, none) }
 
 -- bodies of a search that went on are bodies of the one before
 pub body_before : (b new : Book) → IsSameStart b new → (body : Proof) → IsBodyFrom new body → IsBodyFrom b body

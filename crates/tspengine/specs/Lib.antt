@@ -15,6 +15,8 @@ pub mod Solving
 pub mod Touring
 pub mod Benching
 pub mod Verifying
+pub mod Bounds
+pub mod Bounding
 pub mod Usages
 pub mod Runs
 pub mod Statuses

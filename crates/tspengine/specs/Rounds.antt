@@ -1,5 +1,5 @@
 -- The rounds of a search, and what they save.
-use Rattle.std.specs.Prelude.{◌≡◌, ◌<◌, List, [], ◌∷◌, Result, Ok, Err}
+use Rattle.std.specs.Prelude.{◌≡◌, ℕ, ◌+◌, ◌-◌, ◌<◌, List, [], ◌∷◌, Result, Ok, Err}
 use Rattle.ports.specs.Slots.{SlotsTold}
 use Rattle.ports.specs.Crash.{Moment, Since, moment_of}
 use Rattle.tspdef.specs.Trees.{open_leaves}
@@ -20,6 +20,16 @@ HasEnded b = 0 < open_leaves (tree_of b.tree.nodes) → b.settled ≡ b.budget
 pub record IsFurther (old new : Book) : Type 0 where
   pub start : IsSameStart old new
   pub search : IsSearch new
+
+-- Where the search goes on, less is left of it: rounds, and nodes that the budget lets settle.
+abbrev pub IsOnward : Book → ℕ → Book → ℕ → Type 0
+IsOnward b left new fewer = 0 < open_leaves (tree_of new.tree.nodes) → new.settled < new.budget → fewer + (new.budget - new.settled) < left + (b.budget - b.settled)
+
+-- leases were lost, and nothing else changed
+pub record IsDismissed (b new : Book) : Type 0 where
+  pub start : IsSameStart b new
+  pub tree : new.tree ≡ b.tree
+  pub settled : new.settled ≡ b.settled
 
 -- a body on the way of a book's search
 abbrev pub IsBodyFrom : Book → Proof → Type 0

@@ -1,12 +1,15 @@
 //! The engine: a command line, a desk and slots in, an answer out.
 //!
-//! `specs/Headline.antt` says what holds where it answers Optimal, Within, Stopped, Toured, Benched or BenchStopped, a record each; where
-//! it answers Verified or Refused, that of `verification` does.
+//! `specs/Headline.antt` says what holds where it answers Optimal, Within, Stopped, Toured, Benched or BenchStopped, a record each, and
+//! `specs/Bounds.antt` where it answers Bounded, Checked or BoundRefused; where it answers Verified or Refused, that of `verification` does.
 //!
 //! - [`run`] reads the words, does what they say, and ends with a [`Status`]. `specs/Runs.antt` is its contract, a line a command.
 #![tactic(auto)]
 
 mod benching;
+mod bounding;
+mod bound_texts;
+mod checkbounding;
 mod crew;
 mod outcomes;
 mod publishing;
@@ -26,9 +29,13 @@ pub use statuses::Status;
 #[cfg(test)]
 mod changed_bytes;
 #[cfg(test)]
+mod bounds_runs;
+#[cfg(test)]
 mod failing_calls;
 #[cfg(test)]
 mod fixed_edges;
+#[cfg(test)]
+mod hostile_rounds;
 #[cfg(test)]
 mod resumed_runs;
 #[cfg(test)]

@@ -50,7 +50,15 @@ fn run_on<R: Threads + Wait + Sync>(
         ROOM,
     )?;
     let mut slots = MemSlots::new(alloc, slot0, slot1, &[], ROOM)?;
-    let status = run(rt, alloc, &words(alloc, line)?, &mut desk, &mut slots, &OPEN, &OpenGate);
+    let status = run(
+        rt,
+        alloc,
+        &words(alloc, line)?,
+        &mut desk,
+        &mut slots,
+        &OPEN,
+        &OpenGate,
+    );
     Ok(Ended {
         status,
         desk,

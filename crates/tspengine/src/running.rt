@@ -3,6 +3,8 @@ ghost use Rattle.std.specs.Prelude.{map, string_bytes};
 ghost use Rattle.tspengine.specs.Runs.{Runs};
 
 use crate::benching::bench;
+use crate::bounding::bound;
+use crate::checkbounding::checkbound;
 use crate::crew::{BothPosts, Crew};
 use crate::solving::solve;
 use crate::statuses::Status;
@@ -32,8 +34,14 @@ use tspwords::{Command, WordsError, read_command, taken_words_are_given};
 /// open it writes the proof to OUT and prints `OPTIMAL` with the length; else it writes the body to OUT and prints `STOPPED`. The
 /// same words give the same text and bytes.
 ///
+/// `bound INSTANCE CERT [--steps K]` reads the instance, raises duals in K steps, writes the certificate of their Held-Karp bound to
+/// CERT, and prints `BOUND` with it.
+///
+/// `checkbound INSTANCE CERT` reads the instance and then the certificate, whoever wrote it, and prints `CHECKED` and its bound where it
+/// is accepted, and else `REFUSED` and its first refusal with the line of it.
+///
 /// Each command has a record of how it ends, by its status (`specs/Runs.antt`); what the statuses of an answer promise stands in
-/// `specs/Headline.antt`. Where the desk or the slots do not tell what they hold, these speak of the counts of faults alone. Only
+/// `specs/Headline.antt` and `specs/Bounds.antt`. Where the desk or the slots do not tell what they hold, these speak of the counts of faults alone. Only
 /// `solve` touches the slots.
 pub fn run<R: Threads + Wait + Sync, D: Desk, L: Slots, P: Posts + Sync, G: Gate + Sync>(
     rt: &R,
@@ -87,7 +95,9 @@ pub fn run<R: Threads + Wait + Sync, D: Desk, L: Slots, P: Posts + Sync, G: Gate
         Ok(Command::Verify(words)) => verify(alloc, &words, desk),
         Ok(Command::Tour(words)) => tour(alloc, &words, desk),
         Ok(Command::Bench(words)) => bench(alloc, &words, desk),
-        Ok(Command::Replay(_) | Command::Bound(_) | Command::Checkbound(_)) => usage(desk),
+        Ok(Command::Bound(words)) => bound(alloc, &words, desk),
+        Ok(Command::Checkbound(words)) => checkbound(alloc, &words, desk),
+        Ok(Command::Replay(_)) => usage(desk),
         Err(WordsError::Usage) => usage(desk),
         Err(WordsError::NoMemory) => Status::NoMemory,
     }

@@ -1,12 +1,14 @@
 //! A search: in rounds by grunts in threads, then alone, with the way so far saved on and on.
-ghost use Rattle.std.specs.Prelude.{◌≡◌, ◌<◌, true, false, IfOk, OnOk, OnErr, IsErrOf};
+ghost use Rattle.std.specs.Prelude.{◌≡◌, ◌<◌, ◌≤◌, true, false, IfOk, OnOk, OnErr, IsErrOf};
 ghost use Rattle.std.specs.Arc.{arc_value};
 ghost use Rattle.ports.specs.Outside.{BothTell, WhereTold, Cause};
 ghost use Rattle.tspdef.specs.Trees.{open_leaves};
 ghost use Rattle.treebook.specs.Tables.{tree_of};
 ghost use Rattle.slotstore.specs.Standing.{StandsFor};
 ghost use Rattle.tspengine.specs.Searches.{start_in, IsSearch};
-ghost use Rattle.tspengine.specs.Rounds.{HasEnded, IsFurther, Searches, KeepsSlots, SavesOne, FailsToSave};
+ghost use Rattle.worker.specs.Splits.{IsNeededSplit};
+ghost use Rattle.tspround.specs.Alone.{IsAlone};
+ghost use Rattle.tspengine.specs.Rounds.{HasEnded, IsFurther, IsOnward, IsDismissed, Searches, KeepsSlots, SavesOne, FailsToSave};
 
 use crate::crew::{Crew, Field};
 use crate::outcomes::text_of;
@@ -50,15 +52,21 @@ pub(crate) fn search<R: Threads + Wait + Sync, L: Slots, P: Posts + Sync, G: Gat
     ensures saved { BothTell (Searches result search.boss (L.past slots.old) (L.past slots.new)) (L.told slots.old) (L.told slots.new) }
     ensures cause { Cause (IsErrOf result Halt.StoreFault) (L.faults slots.old) (L.faults slots.new) }
 {
-    let Search { boss, near } = search;
+    let Search { mut boss, near } = search;
     let field = Field {
         near,
         pool: SharedPool::new(alloc, instance.n())?,
         instance: shared(alloc, instance)?,
         seed,
     };
-    let boss = search_in_rounds(crew, alloc, &field, boss, slots, store)?;
-    search_alone(crew, alloc, &field, boss, slots, store)
+    let mut left = boss.budget() + MOST_LOST + 1;
+    loop {
+        boss = go_on(crew, alloc, &field, boss, &mut left)?;
+        if !goes_on(&boss) {
+            return Ok(boss);
+        }
+        save(alloc, &boss, slots, store)?;
+    }
 }
 
 /// A copy of an instance, to be shared by threads.
@@ -71,46 +79,33 @@ fn shared(alloc: Global, instance: &Instance) -> Result<Arc<Instance, Global>, A
     }
 }
 
-/// Sends the grunts out, round by round, while that gets on: while a node is open, the budget is not settled and few leases are lost,
-/// and the last round settled a node or lost a lease.
-fn search_in_rounds<R: Threads + Wait + Sync, L: Slots, P: Posts + Sync, G: Gate + Sync>(
+/// A round of the grunts, while rounds are left and few leases are lost; else some turns alone. A round that neither settles a node
+/// nor loses a lease is the last.
+fn go_on<R: Threads + Wait + Sync, P: Posts + Sync, G: Gate + Sync>(
     crew: &Crew<'_, R, P, G>,
     alloc: Global,
     field: &Field,
-    mut boss: Boss,
-    slots: &mut L,
-    store: &mut Store,
-) -> Result<Boss, Halt>
-    requires stands { WhereTold (StandsFor store.old) (L.told slots.old) }
+    boss: Boss,
+    left: &mut u32,
+) -> Result<Boss, AllocError>
     requires search { IsSearch boss }
     requires instance { arc_value field.now.instance ≡ boss.instance }
     requires cities { field.now.near.n ≡ boss.instance.n }
-    ensures stands { OnOk result (WhereTold (StandsFor store.new) (L.told slots.new)) }
     ensures further { IfOk result (IsFurther boss) }
-    ensures saved { BothTell (Searches result boss (L.past slots.old) (L.past slots.new)) (L.told slots.old) (L.told slots.new) }
-    ensures cause { Cause (IsErrOf result Halt.StoreFault) (L.faults slots.old) (L.faults slots.new) }
+    ensures onward { IfOk result (λ b. IsOnward boss left.old b left.new) }
 {
-    for _ in 0..boss.budget() + MOST_LOST + 1 {
-        if !wants_grunts(&boss) {
-            break;
-        }
-        let before = (boss.settled(), boss.leases().lost());
-        boss = play_round(crew, alloc, field, boss)?;
-        if goes_on(&boss) {
-            save(alloc, &boss, slots, store)?;
-        }
-        if before == (boss.settled(), boss.leases().lost()) {
-            break;
-        }
+    if *left == 0 || boss.grunts() == 0 || boss.leases().lost() >= MOST_LOST {
+        *left = 0;
+        return turns_alone(crew, alloc, field, boss);
     }
+    let before = (boss.settled(), boss.leases().lost());
+    let boss = play_round(crew, alloc, field, boss)?;
+    *left = if before == (boss.settled(), boss.leases().lost()) {
+        0
+    } else {
+        *left - 1
+    };
     Ok(boss)
-}
-
-/// Whether grunts may get on: a node is open, the budget is not settled, and few leases are lost.
-fn wants_grunts(boss: &Boss) -> bool
-    ensures some { result ≡ true → 0 < boss.now.grunts }
-{
-    goes_on(boss) && boss.grunts() > 0 && boss.leases().lost() < MOST_LOST
 }
 
 /// One round of the grunts. After it none of them holds a lease.
@@ -125,6 +120,7 @@ fn play_round<R: Threads + Wait + Sync, P: Posts + Sync, G: Gate + Sync>(
     requires instance { arc_value field.now.instance ≡ boss.instance }
     requires cities { field.now.near.n ≡ boss.instance.n }
     ensures further { IfOk result (IsFurther boss) }
+    ensures no_less { IfOk result (λ b. boss.settled ≤ b.settled) }
 {
     let gap = boss.gap();
     let Round { mut boss, .. } = rounds(
@@ -146,8 +142,7 @@ fn play_round<R: Threads + Wait + Sync, P: Posts + Sync, G: Gate + Sync>(
 
 /// Whatever a grunt still holds is lost.
 fn dismiss(boss: &mut Boss)
-    requires { IsSearch boss.old }
-    ensures { IsFurther boss.old boss.new }
+    ensures { IsDismissed boss.old boss.new }
 {
     events_are_charged();
     for grunt in 1..=boss.grunts() {
@@ -155,44 +150,31 @@ fn dismiss(boss: &mut Boss)
     }
 }
 
-/// Works alone until no node is open or the budget is settled, and saves after each 1,024 settled nodes.
-fn search_alone<R: Threads + Wait + Sync, L: Slots, P: Posts + Sync, G: Gate + Sync>(
+/// So many turns alone. What the grunts found of cuts serves them too.
+fn turns_alone<R: Threads + Wait + Sync, P: Posts + Sync, G: Gate + Sync>(
     crew: &Crew<'_, R, P, G>,
     alloc: Global,
     field: &Field,
-    mut boss: Boss,
-    slots: &mut L,
-    store: &mut Store,
-) -> Result<Boss, Halt>
-    requires stands { WhereTold (StandsFor store.old) (L.told slots.old) }
+    boss: Boss,
+) -> Result<Boss, AllocError>
     requires search { IsSearch boss }
     requires instance { arc_value field.now.instance ≡ boss.instance }
     requires cities { field.now.near.n ≡ boss.instance.n }
-    ensures stands { OnOk result (WhereTold (StandsFor store.new) (L.told slots.new)) }
-    ensures further { IfOk result (IsFurther boss) }
-    ensures ended { IfOk result HasEnded }
-    ensures saved { BothTell (Searches result boss (L.past slots.old) (L.past slots.new)) (L.told slots.old) (L.told slots.new) }
-    ensures cause { Cause (IsErrOf result Halt.StoreFault) (L.faults slots.old) (L.faults slots.new) }
+    ensures { IfOk result (IsAlone IsNeededSplit TURNS boss) }
 {
+    let gap = boss.gap();
     let mut seat = field.pool.seat(crew.rt);
-    loop {
-        let gap = boss.gap();
-        boss = alone(
-            alloc,
-            boss,
-            &mut seat,
-            &field.instance,
-            &field.near,
-            &LpWorker,
-            TURNS,
-            field.seed,
-            gap,
-        )?;
-        if !goes_on(&boss) {
-            return Ok(boss);
-        }
-        save(alloc, &boss, slots, store)?;
-    }
+    alone(
+        alloc,
+        boss,
+        &mut seat,
+        &field.instance,
+        &field.near,
+        &LpWorker,
+        TURNS,
+        field.seed,
+        gap,
+    )
 }
 
 /// Whether a node is open and the budget is not settled.

@@ -82,9 +82,7 @@ fn solve_instance<R: Threads + Wait + Sync, D: Desk, L: Slots, P: Posts + Sync, 
         return Status::StoreFault;
     }
     match Store::begin(slots) {
-        Ok(mut store) => {
-            solve_on(crew, alloc, words, instance, desk, slots, &mut store)
-        },
+        Ok(mut store) => { solve_on(crew, alloc, words, instance, desk, slots, &mut store) },
         Err(_) => Status::StoreFault,
     }
 }

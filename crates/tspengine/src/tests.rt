@@ -103,7 +103,15 @@ pub(crate) fn run_with<R: Threads + Wait + Sync>(
         ROOM,
     )?;
     let mut slots = MemSlots::new(alloc, b"", b"", faults.bad_slots, ROOM)?;
-    let status = run(rt, alloc, &words(alloc, line)?, &mut desk, &mut slots, &OPEN, &OpenGate);
+    let status = run(
+        rt,
+        alloc,
+        &words(alloc, line)?,
+        &mut desk,
+        &mut slots,
+        &OPEN,
+        &OpenGate,
+    );
     Ok(Ended {
         status,
         desk,
@@ -111,12 +119,22 @@ pub(crate) fn run_with<R: Threads + Wait + Sync>(
     })
 }
 
-pub(crate) fn solved<R: Threads + Wait + Sync>(rt: &R, alloc: Global, line: &str, text: &str) -> Result<Ended, AllocError> {
+pub(crate) fn solved<R: Threads + Wait + Sync>(
+    rt: &R,
+    alloc: Global,
+    line: &str,
+    text: &str,
+) -> Result<Ended, AllocError> {
     run_with(rt, alloc, line, text, &NONE)
 }
 
 /// Verifies the bytes of a proof, beside slots that hold something.
-pub(crate) fn verified<R: Threads + Wait + Sync>(rt: &R, alloc: Global, text: &str, proof: &[u8]) -> Result<Ended, AllocError> {
+pub(crate) fn verified<R: Threads + Wait + Sync>(
+    rt: &R,
+    alloc: Global,
+    text: &str,
+    proof: &[u8],
+) -> Result<Ended, AllocError> {
     let mut desk = MemDesk::new(
         alloc,
         text.as_bytes(),
@@ -143,6 +161,25 @@ fn is_bound_to(path: Option<&[u8]>, word: &[u8]) -> bool {
         Some(path) => path == word,
         None => false,
     }
+}
+
+#[test]
+fn what_becomes_of_reports_costs_time_alone(rt: HostRuntime) -> Result<(), Fail> {
+    let alloc = rt.alloc();
+    for line in [
+        "tspc solve a b c --budget 1 --grunts 2 --lose 1",
+        "tspc solve a b c --budget 1 --grunts 2 --lose 300",
+        "tspc solve a b c --budget 1 --grunts 2 --twice",
+        "tspc solve a b c --budget 1 --grunts 2 --late",
+        "tspc solve a b c --grunts 64",
+    ] {
+        let square = solved(&rt, alloc, line, SQUARE)?;
+        assert_eq!(rt; square.status, Status::Optimal);
+        assert_eq!(rt; square.text(), b"OPTIMAL 40\nTOUR 1 2 3 4\n".as_slice());
+    }
+    let many = solved(&rt, alloc, "tspc solve a b c --grunts 65", SQUARE)?;
+    assert_eq!(rt; many.status, Status::Usage);
+    Ok(())
 }
 
 #[test]
@@ -503,7 +540,12 @@ fn refusals_of_an_instance_are_printed(rt: HostRuntime) -> Result<(), Fail> {
         (9, "3 10 0", b"INSTANCE 10 9\n"),
     ];
     for (number, line, want) in rows {
-        let ended = solved(&rt, alloc, "tspc solve a b c", &with_line(alloc, number, line)?)?;
+        let ended = solved(
+            &rt,
+            alloc,
+            "tspc solve a b c",
+            &with_line(alloc, number, line)?,
+        )?;
         assert_eq!(rt; ended.status, Status::BadInstance);
         assert_eq!(rt; ended.text(), want);
         assert_eq!(rt; ended.desk.proof(), b"".as_slice());
@@ -552,7 +594,7 @@ fn other_words_are_usage(rt: HostRuntime) -> Result<(), Fail> {
         assert_eq!(rt; ended.status, Status::Usage);
         assert_eq!(rt;
             ended.text(),
-            b"USAGE tspc solve/verify/tour/bench\n".as_slice()
+            b"USAGE tspc solve/verify/tour/bench/replay/bound/checkbound\n".as_slice()
         );
         assert_eq!(rt; ended.desk.proof(), b"".as_slice());
     }

@@ -1,34 +1,27 @@
 -- Events under the lock.
-use Rattle.std.proofs.Common.{◌≡◌, ℕ, ◌+◌, ◌*◌, ◌<◌, ◌≤◌, ◌^◌, Option, Some, None, List, [], ◌∷◌, ◌++◌, length, refl, sym, ◌∙◌, subst, arith}
+use Rattle.std.proofs.Common.{◌≡◌, ℕ, ◌+◌, ◌*◌, ◌<◌, ◌≤◌, ◌^◌, Option, Some, None, [], ◌∷◌, ◌++◌, length, refl, sym, subst, arith}
 use Rattle.tspdef.specs.Instances.{Instance}
-use Rattle.tspdef.specs.Trees.{Tree}
 use Rattle.branchx.specs.Path.{Conditions}
-use Rattle.pricer.specs.declared.closing.Report.{Report}
-use Rattle.pricer.specs.declared.closing.Report.TheVariants as content
 use Rattle.treebook.specs.Tree as trees
-use Rattle.treebook.specs.Tables.{Node, tree_of, path_at}
+use Rattle.treebook.specs.Tables.{tree_of}
 use Rattle.treebook.specs.Laws.{OpenNodesAreOpenLeaves, ClosingKeepsTables, SplittingKeepsTables}
 use Rattle.bossx.specs.declared.brought.Brought.{Brought}
 use Rattle.bossx.specs.declared.brought.Brought.TheVariants.{Plain, Hinted, Weighed}
 use Rattle.bossx.specs.declared.events.Event.{Event}
-use Rattle.bossx.specs.declared.events.Event.TheVariants as event
 use Rattle.bossx.specs.declared.events.Reply.{Reply}
-use Rattle.bossx.specs.declared.events.Reply.TheVariants as heard
-use Rattle.bossx.specs.declared.replies.Asked.{Asked}
-use Rattle.bossx.specs.declared.replies.Asked.TheVariants as told
 use Rattle.bossx.specs.Books.{Book, Start, best_length, path_in, node_of, content_of, lost_if, released}
 use Rattle.leasebook.specs.Leases.{of_grunt}
 use Rattle.bossx.specs.Judging.{MayBeTaken}
 use Rattle.bossx.specs.Kept.{IsBook, IsTreeOf}
-use Rattle.bossx.specs.Steps.{Step, Run, run_ends, run_goes_on, ask_done, ask_spent, ask_home, ask_not_yet, ask_leased, report_unknown, report_stale, report_spent, report_misfit, report_weak, report_taken, own_stale, own_spent, own_misfit, own_weak, own_taken, gone_idle, gone_lost, expire_unknown, expire_ended, expire_lost, offer_other_size, offer_off_fixed, offer_not_shorter, offer_better}
-use Rattle.bossx.specs.Laws.{IsSameStart, IsChargedFor, StepsCharge, granted_with, taken_with}
-use Rattle.worker.specs.Splits.{Splits, StayForMore}
-use Rattle.worker.specs.Works.{BeginsAt, SplitsOnly, cliques}
+use Rattle.bossx.specs.Steps.{Step, run_ends, run_goes_on, ask_done, ask_spent, ask_home, ask_not_yet, ask_leased, report_unknown, report_stale, report_spent, report_misfit, report_weak, report_taken, own_stale, own_spent, own_misfit, own_weak, own_taken, gone_idle, gone_lost, expire_unknown, expire_ended, expire_lost, offer_other_size, offer_off_fixed, offer_not_shorter, offer_better}
+use Rattle.bossx.specs.Laws.{IsChargedFor, StepsCharge, granted_with, taken_with}
+use Rattle.worker.specs.Splits.{Splits}
+use Rattle.worker.specs.Works.{BeginsAt, cliques}
 use Rattle.tspround.specs.Alone.{IsSplitBy}
 use Rattle.tspround.specs.Splits.{SplitSince}
-use Rattle.tspround.specs.Rounds.{IsRun, IsReached, MayComeIn, IsOrder, WasLent}
+use Rattle.tspround.specs.Rounds.{IsReached, MayComeIn, IsOrder, WasLent}
 use Rattle.tspround.specs.declared.order.Order.{Order}
-use Rattle.tspround.proofs.Reports.{taking_grows, only_more}
+use Rattle.tspround.proofs.Reports.{taking_grows}
 use Rattle.tspround.proofs.Runs.{same_start, start_then, run_append}
 use Rattle.tspround.proofs.Lengths.{best_is_short, path_begins, path_is_few}
 

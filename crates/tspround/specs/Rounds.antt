@@ -3,7 +3,6 @@ use Rattle.std.specs.Prelude.{◌≡◌, ℕ, ◌+◌, ◌<◌, ◌≤◌, ◌^�
 use Rattle.std.specs.List.{sum_by}
 use Rattle.branchx.specs.Path.{Conditions}
 use Rattle.pricer.specs.declared.closing.Report.{Report}
-use Rattle.bossx.specs.declared.brought.Brought.{Brought}
 use Rattle.bossx.specs.declared.events.Event.{Event}
 use Rattle.bossx.specs.declared.events.Event.TheVariants as event
 use Rattle.bossx.specs.declared.events.Reply.{Reply}

@@ -105,7 +105,13 @@ impl<J: Opening, W: Worker, L: Ledger, M: Ledger> Held<J, W, L, M> {
     }
 
     /// The node that was lent, with its path.
-    pub(crate) fn order(&self, alloc: Global, lease: u32, node: u32, best: u64) -> Result<Order, AllocError>
+    pub(crate) fn order(
+        &self,
+        alloc: Global,
+        lease: u32,
+        node: u32,
+        best: u64,
+    ) -> Result<Order, AllocError>
         requires few { length J.book.start.nodes + 2 * J.book.budget ≤ 1048576 }
         requires node { node < length self.now.book.tree.nodes }
         requires best { best ≡ best_length self.now.book }
@@ -159,7 +165,9 @@ impl<J: Opening, W: Worker, L: Ledger, M: Ledger> Held<J, W, L, M> {
         ensures taken { result.1.takes.amount ≡ all.takes.amount }
     {
         let Held {
-            boss, mut ledgers, ..
+            boss,
+            mut ledgers,
+            ..
         } = self;
         ledgers.grants.audit(&mut all.grants);
         ledgers.takes.audit(&mut all.takes);

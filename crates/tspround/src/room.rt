@@ -34,9 +34,15 @@ pub(crate) struct Room<'a, J: Opening, W: Worker, P: Posts, G: Gate, L: Ledger, 
     ghost few: { length J.book.start.nodes + 2 * J.book.budget ≤ 1048576 },
 }
 
-impl<'a, J: Opening, W: Worker, P: Posts, G: Gate, L: Ledger, M: Ledger>
-    Room<'a, J, W, P, G, L, M>
-{
+impl<'a, J: Opening, W: Worker, P: Posts, G: Gate, L: Ledger, M: Ledger> Room<
+    'a,
+    J,
+    W,
+    P,
+    G,
+    L,
+    M,
+> {
     /// Tells the gate how the search stands, out of the lock.
     pub(crate) fn tell(&self, standing: Standing) {
         let Standing {

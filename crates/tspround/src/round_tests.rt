@@ -156,7 +156,17 @@ fn play<R: Threads + Wait + Sync, P: Posts + Sync, G: Gate + Sync>(
     let pool = SharedPool::new(alloc, square.n())?;
     let shared = Arc::new(alloc, square)?;
     Ok(rounds(
-        rt, alloc, boss, &pool, shared, &near, &PlainWorker, posts, gate, 1, 0,
+        rt,
+        alloc,
+        boss,
+        &pool,
+        shared,
+        &near,
+        &PlainWorker,
+        posts,
+        gate,
+        1,
+        0,
     )?)
 }
 

@@ -142,7 +142,10 @@ fn post_split<J: Opening, W: Worker, P: Posts, G: Gate, L: Ledger, M: Ledger, R:
         if !held.is_at(lease, node, path) {
             return false;
         }
-        seat.act(&mut *held, Event::Report(lease, Brought::Hinted(branch, hint)));
+        seat.act(
+            &mut *held,
+            Event::Report(lease, Brought::Hinted(branch, hint)),
+        );
         room.freed.notify_all();
         held.standing()
     };

@@ -1,5 +1,5 @@
 //! What a grunt does from its seat: it asks, works and reports.
-ghost use Rattle.std.specs.Prelude.{◌≡◌, IfOk, IfSome};
+ghost use Rattle.std.specs.Prelude.{◌≡◌, ◌≢◌, None, IfOk, IfSome};
 ghost use Rattle.bossx.specs.declared.replies.Asked as told;
 ghost use Rattle.worker.specs.Works.{SplitsOnly};
 ghost use Rattle.tspround.specs.Rounds.{IsOrder, IfWork};
@@ -13,7 +13,6 @@ use bossx::{Asked, Event, Reply};
 use cutpool::CutBox;
 use cyc::Tour;
 use ports::{Fate, Gate, Point, Posts};
-use pricer::Report;
 use std::alloc::AllocError;
 use std::sync::Wait;
 use std::sync::ledger::Ledger;
@@ -107,13 +106,15 @@ impl<J: Opening, L: Ledger, M: Ledger> Seat<J, L, M> {
         late: &mut Option<Sent<J, W>>,
         order: Order,
     ) -> Result<bool, AllocError>
-        requires { IsOrder J.book order }
+        requires order { IsOrder J.book order }
+        requires none { late.old ≡ None }
     {
         self.newest = order.lease;
         room.gate.pass(self.grunt, self.newest, Point::BeforeWork);
         let sent = self.work(rt, room, shared, order)?;
         room.gate.pass(self.grunt, self.newest, Point::BeforeReport);
-        let goes_on = self.send(rt, room, sent, late)?;
+        let fate = room.posts.fate(self.newest);
+        let goes_on = self.send(rt, room, fate, sent, late)?;
         room.gate.pass(self.grunt, self.newest, Point::AfterReport);
         Ok(goes_on)
     }
@@ -145,7 +146,10 @@ impl<J: Opening, L: Ledger, M: Ledger> Seat<J, L, M> {
             room.gap,
         )?;
         let Work {
-            tour, report, hint, ..
+            tour,
+            report,
+            hint,
+            ..
         } = work;
         self.offer(rt, room, tour);
         Ok(Sent::new(lease, node, path, report, hint))
@@ -165,15 +169,19 @@ impl<J: Opening, L: Ledger, M: Ledger> Seat<J, L, M> {
         }
     }
 
-    /// Sends a report as the posts let it go: once, twice, later or never. Says whether to go on.
+    /// Sends a report as its fate is: once, twice, later or never. Says whether to go on.
     fn send<W: Worker, P: Posts, G: Gate, R: Wait>(
         &mut self,
         rt: &R,
         room: &Room<'_, J, W, P, G, L, M>,
+        fate: Fate,
         sent: Sent<J, W>,
         late: &mut Option<Sent<J, W>>,
-    ) -> Result<bool, AllocError> {
-        match room.posts.fate(self.newest) {
+    ) -> Result<bool, AllocError>
+        requires { late.old ≡ None }
+        ensures { late.new ≢ None → fate ≡ Fate.Late }
+    {
+        match fate {
             Fate::Never => Ok(true),
             Fate::Once => sent.post(rt, room, self),
             Fate::Twice => {

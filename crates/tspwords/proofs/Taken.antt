@@ -1,5 +1,5 @@
 -- What words that are taken give.
-use Rattle.std.proofs.Common.{◌≡◌, ◌<◌, ◌||◌, ◌&&◌, ◌⊎◌, ℕ, Bool, true, false, cond, List, [], ◌∷◌, ◌++◌, length, fold, refl, sym, ap, subst, ◌∙◌, arith, not, inl, inr, Option, Some, None, is_some, codes, Result, Ok, Err, IfOk}
+use Rattle.std.proofs.Common.{◌≡◌, ◌<◌, ◌||◌, ◌⊎◌, ℕ, Bool, true, false, cond, List, [], ◌∷◌, ◌++◌, length, fold, refl, sym, ap, subst, ◌∙◌, arith, not, inl, inr, Option, Some, None, is_some, codes}
 use Rattle.std.specs.Prelude.{find, slice_get, unwrap_or, option_and_then, option_map}
 use Rattle.std.specs.Option.{option_map_or}
 use Rattle.std.specs.List.{list_any, slice_index_or}
@@ -9,27 +9,17 @@ use Rattle.clap.specs.Facts.{explicit_source, parser_of_value}
 use Rattle.clap.specs.Kinds.{Kinds, check_kinds, or_else, value_kinds, values_kinds}
 use Rattle.clap.specs.Values.{refused_kind}
 use Rattle.clap.specs.ValueTests.{accepts, is_unsigned_in}
-use Rattle.clap.specs.Walk.{Row, Rule, Text, answers_to, arg_by_id, default_rows, finished, first_of, has_row, more_values, nothing_held, reading_by, rows_after, rows_of, settled, walk, with_default, with_values}
-use Rattle.std.specs.Box.{box_value}
-use Rattle.clap.specs.Matches.{found_of, has_subcommand, subcommand_name_of}
-use Rattle.clap.specs.declared.parser.matches.ArgMatches.{ArgMatches}
-use Rattle.clap.specs.declared.parser.matches.ArgMatches.TheViews.{out-ArgMatches, out-SubCommand}
-use Rattle.clap.specs.Simple.{App, Shape, argument_words, matches_of, subcommand_of, subcommand_rows_of, built, built_leaf, entered, help_rule, inherited, label_of, names_of, rows_at}
+use Rattle.clap.specs.Walk.{Row, Rule, Text, answers_to, arg_by_id, default_rows, finished, first_of, has_row, more_values, nothing_held, reading_by, rows_after, settled, walk, with_default, with_values}
+use Rattle.clap.specs.Simple.{Shape, argument_words, matches_of, subcommand_of, built, built_leaf, entered, help_rule, inherited, label_of, names_of, rows_at}
 use Rattle.clap.specs.Takes.{is_given}
-use Rattle.clap.specs.Faults.{check_fault, entered_fault, fault_of, level_fault, values_fault}
+use Rattle.clap.specs.Faults.{check_fault, entered_fault, level_fault, values_fault}
 use Rattle.clap.specs.declared.builder.value_parser.Reading.{Reading}
 use Rattle.clap.specs.declared.builder.value_parser.ValueParser.TheVariants as parser
 use Rattle.clap.specs.declared.parser.matches.ValueSource.{ValueSource}
 use Rattle.clap.specs.declared.parser.matches.ValueSource.TheVariants.{DefaultValue}
-use Rattle.tspwords.specs.Program.{program, verifier, IsTaken, IsVerifierCall, command_word, rows_of_words, word_in, word_for, budget_of, seed_of, gap_of, is_on, most_budget, least_cities, most_cities, most_seed, most_gap, least_grunts, most_grunts, most_lose, most_steps, solve_shape, verify_shape, tour_shape, bench_shape, replay_shape, bound_shape, checkbound_shape}
+use Rattle.tspwords.specs.Program.{program, verifier, IsTaken, IsVerifierCall, word_in, word_for, most_budget, least_cities, most_cities, most_seed, most_gap, least_grunts, most_grunts, most_lose, most_steps, solve_shape, verify_shape, tour_shape, bench_shape, replay_shape, bound_shape, checkbound_shape}
 use Rattle.tspwords.specs.Laws.{TakenWordsAreGiven, VerifierWordsAreGiven}
-use Rattle.tspwords.specs.Found.{IsSolveOf, IsVerifyOf, IsTourOf, IsBenchOf, budget_in, cities_in, seed_in, gap_in}
-use Rattle.tspwords.specs.Says.{SaysSolve, SaysVerify, SaysTour, SaysBench, SaysPaths}
-use Rattle.tspwords.specs.declared.words.BenchWords.{BenchWords}
-use Rattle.tspwords.specs.declared.words.Solve.{Solve}
-use Rattle.tspwords.specs.declared.words.TourWords.{TourWords}
-use Rattle.tspwords.specs.declared.words.VerifyWords.{VerifyWords}
-use Rattle.tspwords.proofs.Numbers.{unsigned_in, number_taken}
+use Rattle.tspwords.proofs.Numbers.{unsigned_in}
 use Rattle.tspwords.proofs.Given.{Each, IsGood, ArePlain, IsFound, first_free, level_found}
 
 -- `solve` as the parser has it

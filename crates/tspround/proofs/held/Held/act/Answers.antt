@@ -1,7 +1,6 @@
-use Rattle.std.proofs.Common.{◌≡◌, ℕ, ◌+◌, ◌<◌, ◌≤◌, ◌^◌, length, sym, subst, arith}
+use Rattle.std.proofs.Common.{◌≡◌, ℕ, ◌+◌, length, sym, subst, arith}
 use Rattle.leasebook.specs.Log.{Table}
-use Rattle.bossx.specs.Books.{Book}
-use Rattle.bossx.specs.Laws.{granted_with, taken_with}
+use Rattle.bossx.specs.Laws.{granted_with}
 use Rattle.tspround.specs.Rounds.{Holding, IsReached, MayComeIn}
 use Rattle.tspround.proofs.Holding.{reached_by}
 use Rattle.tspround.proofs.held.Held.act.Goals as goal
@@ -13,7 +12,7 @@ invariant_of-self g c =
     let new = c.act-reply.new.self in
     let fair = subst (λ (h : Holding). MayComeIn S h.book c.args.event) (sym c.self.view_is) c.requires.may in
     let reached = reached_by c.tables_are_trees.ensures.leaves c.tables_grow.ensures.closing c.tables_grow.ensures.splitting c.events_are_charged.ensures.step S g.J.Opening.book b new c.args.event
-            c.act-reply.result c.self.inside.ledgers.grants.total c.self.inside.ledgers.takes.total c.snapshot-book.ensures.book.tree c.act-reply.ensures fair c.self.invariant in
+    c.act-reply.result c.self.inside.ledgers.grants.total c.self.inside.ledgers.takes.total c.snapshot-book.ensures.book.tree c.act-reply.ensures fair c.self.invariant in
     subst (λ (k : ℕ). IsReached S g.J.Opening.book new k c.count.new.ledgers.takes.total) (sym c.count.ensures.granted)
     (subst (λ (k : ℕ). IsReached S g.J.Opening.book new (c.self.inside.ledgers.grants.total + granted_with c.act-reply.result) k) (sym c.count.ensures.taken) reached)
 

@@ -1,0 +1,14 @@
+pub mod ParityLemmas
+pub mod SubmodularLemmas
+pub mod UncrossingLemmas
+pub mod GroupLemmas
+pub mod ChoiceLemmas
+pub mod StepLemmas
+pub mod PairLemmas
+pub mod ListLemmas
+pub mod DegreeLemmas
+pub mod LowerLemmas
+pub mod TurningLemmas
+pub mod ChosenLemmas
+pub mod KnownLemmas
+pub mod CutLemmas

@@ -1,0 +1,4 @@
+pub mod Folding
+pub mod Odd
+pub mod Sides
+pub mod Cuts
