@@ -17,6 +17,7 @@ use Rattle.tspengine.specs.Verifying.{paths_of, Verifies}
 use Rattle.tspengine.specs.Touring.{Tours}
 use Rattle.tspengine.specs.Benching.{Benches}
 use Rattle.tspengine.specs.Bounding.{Bounds, ChecksBound, paths_of_bound}
+use Rattle.tspengine.specs.Replaying.{Replays}
 use Rattle.tspengine.specs.Usages.{Uses}
 use Rattle.tspengine.specs.Runs.{Ends, HasCauses}
 use Rattle.tspengine.specs.declared.statuses.Status.{Status}
@@ -77,6 +78,7 @@ ends_solve s c call ends = record {
   verify = λ other. absurd (solve_or_verify c.words call other);
   tour = λ other. absurd (solve_or_tour c.words call other);
   bench = λ other. absurd (solve_or_bench c.words call other);
+  replay = λ other. absurd (other_call c.words (codes "solve") (codes "replay") refl refl call other);
   bound = λ other. absurd (other_call c.words (codes "solve") (codes "bound") refl refl call other);
   checkbound = λ other. absurd (other_call c.words (codes "solve") (codes "checkbound") refl refl call other);
   usage = λ none. absurd (none call.taken);
@@ -89,6 +91,7 @@ ends_verify s c call ends = record {
   verify = λ _. ends;
   tour = λ other. absurd (verify_or_tour c.words call other);
   bench = λ other. absurd (verify_or_bench c.words call other);
+  replay = λ other. absurd (other_call c.words (codes "verify") (codes "replay") refl refl call other);
   bound = λ other. absurd (other_call c.words (codes "verify") (codes "bound") refl refl call other);
   checkbound = λ other. absurd (other_call c.words (codes "verify") (codes "checkbound") refl refl call other);
   usage = λ none. absurd (none call.taken);
@@ -101,6 +104,7 @@ ends_tour s c call ends = record {
   verify = λ other. absurd (verify_or_tour c.words other call);
   tour = λ _. ends;
   bench = λ other. absurd (tour_or_bench c.words call other);
+  replay = λ other. absurd (other_call c.words (codes "tour") (codes "replay") refl refl call other);
   bound = λ other. absurd (other_call c.words (codes "tour") (codes "bound") refl refl call other);
   checkbound = λ other. absurd (other_call c.words (codes "tour") (codes "checkbound") refl refl call other);
   usage = λ none. absurd (none call.taken);
@@ -113,19 +117,20 @@ ends_bench s c call ends = record {
   verify = λ other. absurd (verify_or_bench c.words other call);
   tour = λ other. absurd (tour_or_bench c.words other call);
   bench = λ _. ends;
+  replay = λ other. absurd (other_call c.words (codes "bench") (codes "replay") refl refl call other);
   bound = λ other. absurd (other_call c.words (codes "bench") (codes "bound") refl refl call other);
   checkbound = λ other. absurd (other_call c.words (codes "bench") (codes "checkbound") refl refl call other);
   usage = λ none. absurd (none call.taken);
 }
 
--- no promise is made of `replay` yet
-pub ends_replay : (s : Status) (c : Call) → IsReplayCall c.words → Ends s c
-ends_replay s c call = record {
+pub ends_replay : (s : Status) (c : Call) → IsReplayCall c.words → Replays s c → Ends s c
+ends_replay s c call ends = record {
   words = inr (inr (inr (inr (inl call))));
   solve = λ other. absurd (other_call c.words (codes "replay") (codes "solve") refl refl call other);
   verify = λ other. absurd (other_call c.words (codes "replay") (codes "verify") refl refl call other);
   tour = λ other. absurd (other_call c.words (codes "replay") (codes "tour") refl refl call other);
   bench = λ other. absurd (other_call c.words (codes "replay") (codes "bench") refl refl call other);
+  replay = λ _. ends;
   bound = λ other. absurd (other_call c.words (codes "replay") (codes "bound") refl refl call other);
   checkbound = λ other. absurd (other_call c.words (codes "replay") (codes "checkbound") refl refl call other);
   usage = λ none. absurd (none call.taken);
@@ -138,6 +143,7 @@ ends_bound s c call ends = record {
   verify = λ other. absurd (other_call c.words (codes "bound") (codes "verify") refl refl call other);
   tour = λ other. absurd (other_call c.words (codes "bound") (codes "tour") refl refl call other);
   bench = λ other. absurd (other_call c.words (codes "bound") (codes "bench") refl refl call other);
+  replay = λ other. absurd (other_call c.words (codes "bound") (codes "replay") refl refl call other);
   bound = λ _. ends;
   checkbound = λ other. absurd (other_call c.words (codes "bound") (codes "checkbound") refl refl call other);
   usage = λ none. absurd (none call.taken);
@@ -150,6 +156,7 @@ ends_checkbound s c call ends = record {
   verify = λ other. absurd (other_call c.words (codes "checkbound") (codes "verify") refl refl call other);
   tour = λ other. absurd (other_call c.words (codes "checkbound") (codes "tour") refl refl call other);
   bench = λ other. absurd (other_call c.words (codes "checkbound") (codes "bench") refl refl call other);
+  replay = λ other. absurd (other_call c.words (codes "checkbound") (codes "replay") refl refl call other);
   bound = λ other. absurd (other_call c.words (codes "checkbound") (codes "bound") refl refl call other);
   checkbound = λ _. ends;
   usage = λ none. absurd (none call.taken);
@@ -162,6 +169,7 @@ ends_usage s c none ends = record {
   verify = λ call. absurd (none call.taken);
   tour = λ call. absurd (none call.taken);
   bench = λ call. absurd (none call.taken);
+  replay = λ call. absurd (none call.taken);
   bound = λ call. absurd (none call.taken);
   checkbound = λ call. absurd (none call.taken);
   usage = λ _. ends;
@@ -230,6 +238,16 @@ checkbound_stores : (s : Status) (c : Call) → ChecksBound s c → s ≡ status
 checkbound_stores s c ends f = elim ends [
   | inl (e, x) ↦ let g : status.Checked ≡ status.StoreFault = sym e ∙ f in cc
   | inr (inl (e, x)) ↦ let g : status.BoundRefused ≡ status.StoreFault = sym e ∙ f in cc
+  | inr (inr (inl (e, x))) ↦ let g : status.BadInstance ≡ status.StoreFault = sym e ∙ f in cc
+  | inr (inr (inr (inl (e, x)))) ↦ let g : status.ReadFault ≡ status.StoreFault = sym e ∙ f in cc
+  | inr (inr (inr (inr (inl (e, x))))) ↦ let g : status.WriteFault ≡ status.StoreFault = sym e ∙ f in cc
+  | inr (inr (inr (inr (inr (e, x))))) ↦ let g : status.NoMemory ≡ status.StoreFault = sym e ∙ f in cc
+]
+
+replay_stores : (s : Status) (c : Call) → Replays s c → s ≡ status.StoreFault → ⊥
+replay_stores s c ends f = elim ends [
+  | inl (e, x) ↦ let g : status.Replayed ≡ status.StoreFault = sym e ∙ f in cc
+  | inr (inl (e, x)) ↦ let g : status.BadTape ≡ status.StoreFault = sym e ∙ f in cc
   | inr (inr (inl (e, x))) ↦ let g : status.BadInstance ≡ status.StoreFault = sym e ∙ f in cc
   | inr (inr (inr (inl (e, x)))) ↦ let g : status.ReadFault ≡ status.StoreFault = sym e ∙ f in cc
   | inr (inr (inr (inr (inl (e, x))))) ↦ let g : status.WriteFault ≡ status.StoreFault = sym e ∙ f in cc
@@ -316,6 +334,15 @@ causes_checkbound s c ends same reads writes = record {
   other_stores = λ _. same;
 }
 
+pub causes_replay : (s : Status) (c : Call) → Replays s c → c.after.store_faults ≡ c.before.store_faults
+    → Cause (s ≡ status.ReadFault) c.before.read_faults c.after.read_faults → Cause (s ≡ status.WriteFault) c.before.write_faults c.after.write_faults → HasCauses s c
+causes_replay s c ends same reads writes = record {
+  reads = reads;
+  writes = writes;
+  store = quiet (s ≡ status.StoreFault) c.before.store_faults c.after.store_faults same (replay_stores s c ends);
+  other_stores = λ _. same;
+}
+
 pub causes_usage : (s : Status) (c : Call) → Uses s c → c.after.store_faults ≡ c.before.store_faults → c.after.read_faults ≡ c.before.read_faults
     → Cause (s ≡ status.WriteFault) c.before.write_faults c.after.write_faults → HasCauses s c
 causes_usage s c ends same unread writes = record {
@@ -359,7 +386,7 @@ ends_idle c given idle = elim (which_words c.words given) [
   | inr (inl call) ↦ ends_verify status.NoMemory c call (verify_idle c idle)
   | inr (inr (inl call)) ↦ ends_tour status.NoMemory c call (inr (inr (inr (inr (refl, record { desk = untouched c idle; slots = idle.slots })))))
   | inr (inr (inr (inl call))) ↦ ends_bench status.NoMemory c call (inr (inr (inr (refl, record { desk = idle.desk; slots = idle.slots }))))
-  | inr (inr (inr (inr (inl call)))) ↦ ends_replay status.NoMemory c call
+  | inr (inr (inr (inr (inl call)))) ↦ ends_replay status.NoMemory c call (inr (inr (inr (inr (inr (refl, inl (record { desk = untouched c idle; slots = idle.slots })))))))
   | inr (inr (inr (inr (inr (inl call))))) ↦ ends_bound status.NoMemory c call (inr (inr (inr (inr (refl, inl (record { desk = untouched c idle; slots = idle.slots }))))))
   | inr (inr (inr (inr (inr (inr (inl call)))))) ↦ ends_checkbound status.NoMemory c call (inr (inr (inr (inr (inr (refl, record {
       desk = both_same (IsSilent (paths_of_bound c.words)) (λ (t : Told). inl refl) c.before.desk c.after.desk idle.desk;

@@ -11,7 +11,7 @@ use Rattle.ports.specs.Slots.{SlotsTold}
 use Rattle.slotstore.specs.Store.{loaded}
 use Rattle.tspdef.specs.Trees.{Tree}
 use Rattle.resume_form.specs.Resumed.{IsResumed, IsRefused, OneReading}
-use Rattle.tspwords.specs.Program.{instance_word, budget_of, gap_of, resumes}
+use Rattle.tspwords.specs.Program.{instance_word, budget_of, gap_of, resumes, grunts_of}
 use Rattle.verification.specs.Headline.{Verified, Within, BadInstance, Refused}
 use Rattle.verification.specs.Paths.{Paths}
 use Rattle.verification.specs.Counts.{IsCalm, IsTold}
@@ -23,6 +23,8 @@ use Rattle.tspengine.specs.Touring.{TourCompletes}
 use Rattle.tspengine.specs.Benching.{BenchCompletes, SmallBenchCompletes}
 use Rattle.onetree.specs.Certificates.{IsAccepted}
 use Rattle.tspengine.specs.Bounding.{BoundCompletes, CheckboundCompletes, AcceptedBoundCompletes}
+use Rattle.tspengine.specs.Replaying.{ReplayCompletes}
+use Rattle.tspengine.proofs.Tapes.{told_instance, told_good}
 use Rattle.tspengine.specs.Runs.{Ends, HasCauses, Runs}
 use Rattle.tspengine.specs.declared.statuses.Status.{Status}
 use Rattle.tspengine.specs.declared.statuses.Status.TheVariants as status
@@ -228,6 +230,18 @@ accepted_bound_completes s c ends causes = λ i b call told calm. elim (ends.che
   | inr (inr (inr (inr (inr (e, x))))) ↦ inr e
 ]
 
+-- ---- tapes
+
+replay_completes : (s : Status) (c : Call) → Ends s c → HasCauses s c → ReplayCompletes s c
+replay_completes s c ends causes = λ i call told calm. elim (ends.replay call) [
+  | inl (e, x) ↦ inl e
+  | inr (inl (e, x)) ↦ absurd (told_good i c x told)
+  | inr (inr (inl (e, x))) ↦ absurd (not_bad (instance_word c.words) i c.before.desk c.after.desk (told_instance i (grunts_of c.words) c.before.desk told) x.desk)
+  | inr (inr (inr (inl (e, x)))) ↦ absurd (no_fault (s ≡ status.ReadFault) _ _ causes.reads calm.reads e)
+  | inr (inr (inr (inr (inl (e, x))))) ↦ absurd (no_fault (s ≡ status.WriteFault) _ _ causes.writes calm.writes e)
+  | inr (inr (inr (inr (inr (e, x))))) ↦ inr e
+]
+
 -- a call of `run` that ends so, and by these causes
 pub runs_so : OneReading → (s : Status) (c : Call) → Ends s c → HasCauses s c → Runs s c
 runs_so reading s c ends causes = record {
@@ -241,6 +255,7 @@ runs_so reading s c ends causes = record {
     tour = tour_completes s c ends causes;
     bench = bench_completes s c ends causes;
     small_bench = small_bench_completes s c ends causes;
+    replay = replay_completes s c ends causes;
     bound = bound_completes s c ends causes;
     checkbound = checkbound_completes s c ends causes;
     accepted_bound = accepted_bound_completes s c ends causes;

@@ -11,5 +11,8 @@ mod Benches
 mod Verifies
 mod Bounds
 mod Checkbounds
+mod Plays
+mod Replays
+mod Tapes
 mod Commands
 mod Completions

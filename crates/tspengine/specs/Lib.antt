@@ -17,6 +17,8 @@ pub mod Benching
 pub mod Verifying
 pub mod Bounds
 pub mod Bounding
+pub mod Playing
+pub mod Replaying
 pub mod Usages
 pub mod Runs
 pub mod Statuses

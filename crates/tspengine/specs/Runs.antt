@@ -8,6 +8,7 @@ use Rattle.tspengine.specs.Verifying.{Verifies, VerifyCompletes, AcceptedComplet
 use Rattle.tspengine.specs.Touring.{Tours, TourCompletes}
 use Rattle.tspengine.specs.Benching.{Benches, BenchCompletes, SmallBenchCompletes}
 use Rattle.tspengine.specs.Bounding.{Bounds, BoundCompletes, ChecksBound, CheckboundCompletes, AcceptedBoundCompletes}
+use Rattle.tspengine.specs.Replaying.{Replays, ReplayCompletes}
 use Rattle.tspengine.specs.Usages.{Uses}
 use Rattle.tspengine.specs.declared.statuses.Status.{Status}
 use Rattle.tspengine.specs.declared.statuses.Status.TheVariants as status
@@ -19,6 +20,7 @@ pub record Ends (s : Status) (c : Call) : Type 0 where
   pub verify : IsVerifyCall c.words → Verifies s c
   pub tour : IsTourCall c.words → Tours s c
   pub bench : IsBenchCall c.words → Benches s c
+  pub replay : IsReplayCall c.words → Replays s c
   pub bound : IsBoundCall c.words → Bounds s c
   pub checkbound : IsCheckboundCall c.words → ChecksBound s c
   pub usage : ¬ IsTaken c.words → Uses s c
@@ -39,6 +41,7 @@ pub record Completes (s : Status) (c : Call) : Type 0 where
   pub tour : TourCompletes s c
   pub bench : BenchCompletes s c
   pub small_bench : SmallBenchCompletes s c
+  pub replay : ReplayCompletes s c
   pub bound : BoundCompletes s c
   pub checkbound : CheckboundCompletes s c
   pub accepted_bound : AcceptedBoundCompletes s c

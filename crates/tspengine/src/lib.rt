@@ -12,7 +12,9 @@ mod bound_texts;
 mod checkbounding;
 mod crew;
 mod outcomes;
+mod playing;
 mod publishing;
+mod replaying;
 mod running;
 mod searching;
 mod solving;
@@ -36,6 +38,8 @@ mod failing_calls;
 mod fixed_edges;
 #[cfg(test)]
 mod hostile_rounds;
+#[cfg(test)]
+mod replay_runs;
 #[cfg(test)]
 mod resumed_runs;
 #[cfg(test)]

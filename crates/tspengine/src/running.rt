@@ -6,6 +6,7 @@ use crate::benching::bench;
 use crate::bounding::bound;
 use crate::checkbounding::checkbound;
 use crate::crew::{BothPosts, Crew};
+use crate::replaying::replay;
 use crate::solving::solve;
 use crate::statuses::Status;
 use crate::touring::tour;
@@ -33,6 +34,10 @@ use tspwords::{Command, WordsError, read_command, taken_words_are_given};
 /// `bench SEED N BUDGET OUT` searches the instance of N cities that SEED draws as `solve` does, with that seed. Where no node is left
 /// open it writes the proof to OUT and prints `OPTIMAL` with the length; else it writes the body to OUT and prints `STOPPED`. The
 /// same words give the same text and bytes.
+///
+/// `replay INSTANCE TAPE [--budget N] [--grunts K]` reads the instance, and lets a boss that begins as `solve` does, with K grunts and no
+/// gap, answer to the events of the tape, whoever wrote it. To each it prints a line as the tape comes, and at the end `END` with its counts,
+/// or `FRAME` with the first fault of the tape and the number of its frame.
 ///
 /// `bound INSTANCE CERT [--steps K]` reads the instance, raises duals in K steps, writes the certificate of their Held-Karp bound to
 /// CERT, and prints `BOUND` with it.
@@ -97,7 +102,7 @@ pub fn run<R: Threads + Wait + Sync, D: Desk, L: Slots, P: Posts + Sync, G: Gate
         Ok(Command::Bench(words)) => bench(alloc, &words, desk),
         Ok(Command::Bound(words)) => bound(alloc, &words, desk),
         Ok(Command::Checkbound(words)) => checkbound(alloc, &words, desk),
-        Ok(Command::Replay(_)) => usage(desk),
+        Ok(Command::Replay(words)) => replay(alloc, &words, desk),
         Err(WordsError::Usage) => usage(desk),
         Err(WordsError::NoMemory) => Status::NoMemory,
     }

@@ -26,6 +26,8 @@ pub enum Status {
     Bounded,
     /// The certificate is accepted, and no tour is shorter than the printed bound.
     Checked,
+    /// A tape was played to its end, and a line printed to each of its events.
+    Replayed,
     /// The words are not of a command's form.
     Usage,
     /// The bytes of the instance are not an instance's text.
@@ -36,6 +38,8 @@ pub enum Status {
     Refused,
     /// The bytes of the certificate prove no bound for the instance; the first refusal and its line were printed.
     BoundRefused,
+    /// The bytes of the tape are not a tape's; lines were printed to the events before its first fault, and the fault with its frame.
+    BadTape,
     /// The budget is spent and a node is open; the slots hold a body to go on from.
     Stopped,
     /// The budget is spent and a node is open; the body for a drawn instance was written.
@@ -61,10 +65,11 @@ impl Status {
             | Status::Toured
             | Status::Benched
             | Status::Bounded
-            | Status::Checked => 0,
+            | Status::Checked
+            | Status::Replayed => 0,
             Status::Usage => 2,
             Status::BadInstance => 3,
-            Status::BadRestart | Status::Refused | Status::BoundRefused => 4,
+            Status::BadRestart | Status::Refused | Status::BoundRefused | Status::BadTape => 4,
             Status::Stopped | Status::BenchStopped => 5,
             Status::ReadFault => 6,
             Status::WriteFault => 7,

@@ -4,7 +4,7 @@ use Rattle.tspwords.specs.Says.{Says}
 use Rattle.tspwords.specs.declared.words.Command.{Command}
 use Rattle.tspengine.specs.Calls.{Outside, Call}
 use Rattle.tspengine.specs.declared.statuses.Status.TheVariants as status
-use Rattle.tspengine.proofs.Commands.{ends_solve, ends_verify, ends_tour, ends_bench, ends_replay, ends_bound, ends_checkbound, ends_usage, ends_idle, IsIdle, causes_solve, causes_verify, causes_tour, causes_bench, causes_bound, causes_checkbound, causes_usage, causes_idle}
+use Rattle.tspengine.proofs.Commands.{ends_solve, ends_verify, ends_tour, ends_bench, ends_replay, ends_bound, ends_checkbound, ends_usage, ends_idle, IsIdle, causes_solve, causes_verify, causes_tour, causes_bench, causes_replay, causes_bound, causes_checkbound, causes_usage, causes_idle}
 use Rattle.tspengine.proofs.Completions.{runs_so}
 use Rattle.tspengine.proofs.running.run.Goals as goal
 
@@ -178,7 +178,9 @@ returns-in-Ok-Checkbound g c =
 pub returns-in-Ok-Replay : goal.returns-in-Ok-Replay
 returns-in-Ok-Replay g c =
     let words = map string_bytes c.args.words.now in
-    let s = c.usage.result in
+    let says = subst (λ (x : Command). Says words x) c.in-Ok-Replay.field-0-is c.in-Ok-Replay.ensures.says in
+    let is : IsReplayCall words = record { taken = c.in-Ok-Replay.ensures.taken; named = says.named } in
+    let s = c.replay.result in
     let call : Call = record {
       words = words;
       before = record {
@@ -190,18 +192,16 @@ returns-in-Ok-Replay g c =
         store_faults = g.L.Slots.faults c.args.slots.now;
       };
       after = record {
-        desk = g.D.Desk.told c.usage.new.desk;
+        desk = g.D.Desk.told c.replay.new.desk;
         slots = g.L.Slots.told c.args.slots.now;
         moments = g.L.Slots.past c.args.slots.now;
-        read_faults = g.D.Desk.read_faults c.usage.new.desk;
-        write_faults = g.D.Desk.write_faults c.usage.new.desk;
+        read_faults = g.D.Desk.read_faults c.replay.new.desk;
+        write_faults = g.D.Desk.write_faults c.replay.new.desk;
         store_faults = g.L.Slots.faults c.args.slots.now;
       };
     } in
-    let ends = c.usage.ensures.ends call refl in
-    let says = subst (λ (x : Command). Says words x) c.in-Ok-Replay.field-0-is c.in-Ok-Replay.ensures.says in
-    let is : IsReplayCall words = record { taken = c.in-Ok-Replay.ensures.taken; named = says.named } in
-    runs_so c.bodies_have_one_reading.ensures s call (ends_replay s call is) (causes_usage s call ends refl c.usage.ensures.same c.usage.ensures.writes)
+    let ends = c.replay.ensures.ends call says refl in
+    runs_so c.bodies_have_one_reading.ensures s call (ends_replay s call is ends) (causes_replay s call ends refl c.replay.ensures.reads c.replay.ensures.writes)
 
 pub returns-in-Err-Usage : goal.returns-in-Err-Usage
 returns-in-Err-Usage g c =
@@ -255,3 +255,12 @@ bench-requires-clause-budget g c = (subst (λ (x : Command). Says (map string_by
 
 pub solve-requires : goal.solve-requires
 solve-requires g c = (subst (λ (x : Command). Says (map string_bytes c.args.words.now) x) c.in-Ok-Solve.field-0-is c.in-Ok-Solve.ensures.says).few
+
+pub replay-requires-clause-few : goal.replay-requires-clause-few
+replay-requires-clause-few g c = (subst (λ (x : Command). Says (map string_bytes c.args.words.now) x) c.in-Ok-Replay.field-0-is c.in-Ok-Replay.ensures.says).few
+
+pub replay-requires-clause-some_grunts : goal.replay-requires-clause-some_grunts
+replay-requires-clause-some_grunts g c = (subst (λ (x : Command). Says (map string_bytes c.args.words.now) x) c.in-Ok-Replay.field-0-is c.in-Ok-Replay.ensures.says).some
+
+pub replay-requires-clause-few_grunts : goal.replay-requires-clause-few_grunts
+replay-requires-clause-few_grunts g c = (subst (λ (x : Command). Says (map string_bytes c.args.words.now) x) c.in-Ok-Replay.field-0-is c.in-Ok-Replay.ensures.says).team
