@@ -388,9 +388,12 @@ ends_idle c given idle = elim (which_words c.words given) [
   | inr (inr (inr (inl call))) ↦ ends_bench status.NoMemory c call (inr (inr (inr (refl, record { desk = idle.desk; slots = idle.slots }))))
   | inr (inr (inr (inr (inl call)))) ↦ ends_replay status.NoMemory c call (inr (inr (inr (inr (inr (refl, inl (record { desk = untouched c idle; slots = idle.slots })))))))
   | inr (inr (inr (inr (inr (inl call))))) ↦ ends_bound status.NoMemory c call (inr (inr (inr (inr (refl, inl (record { desk = untouched c idle; slots = idle.slots }))))))
-  | inr (inr (inr (inr (inr (inr (inl call)))))) ↦ ends_checkbound status.NoMemory c call (inr (inr (inr (inr (inr (refl, record {
+  | inr (inr (inr (inr (inr (inr (inl call)))))) ↦ ends_checkbound status.NoMemory c call (inr (inr (inr (inr (inr (
+    refl,
+    record {
       desk = both_same (IsSilent (paths_of_bound c.words)) (λ (t : Told). inl refl) c.before.desk c.after.desk idle.desk;
       slots = idle.slots;
-    }))))))
+    },
+  ))))))
   | inr (inr (inr (inr (inr (inr (inr none)))))) ↦ ends_usage status.NoMemory c none (inr (inr (refl, record { desk = idle.desk; slots = idle.slots })))
 ]

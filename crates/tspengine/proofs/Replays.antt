@@ -132,7 +132,7 @@ either : {T : Type 0} (P Q : T → T → Type 0) (a b : Option T) → BothTell (
 either P Q None None x = inl tt
 either P Q None (Some u) x = absurd x
 either P Q (Some t) None x = absurd x
-either P Q (Some t) (Some u) x = elim x [ | inl y ↦ inl y | inr y ↦ inr y ]
+either P Q (Some t) (Some u) x = elim x [ inl y ↦ inl y | inr y ↦ inr y ]
 
 follows : (c : Call) (i : Instance) (start : Book) (s : Status) (b : Option Told) → BothTell (ReadsInstance (instance_word c.words) i) c.before.desk b
     → BothTell (IsReplay start (tape_word c.words) s) b c.after.desk → BothTell (Follows c start s) c.before.desk c.after.desk
@@ -153,10 +153,10 @@ by Way c i start b first kept read way = record {
 broken : (c : Call) (i : Instance) (start : Book) (s : Status) (b : Option Told) → (s ≡ status.Replayed → ⊥) → (s ≡ status.BadTape → ⊥)
     → IsFirstBook i (budget_of c.words) (grunts_of c.words) start → SlotsKept c → BothTell (ReadsInstance (instance_word c.words) i) c.before.desk b
     → BothTell (Follows c start s) c.before.desk c.after.desk → Unread c ⊎ BrokenOff c
-broken c i start s b none no first kept read plays =
+broken c i start s b unended unfaulty first kept read plays =
     let Rest : Told → Told → Type 0 = λ t v. v ≡ reads (instance_word c.words) t in
     elim (either Rest (PlaysFront c.words start) c.before.desk c.after.desk
-    (both_to (Follows c start s) (λ t v. Rest t v ⊎ PlaysFront c.words start t v) (λ t v x. broken_is c start s t v none no x) c.before.desk c.after.desk plays)) [
+    (both_to (Follows c start s) (λ t v. Rest t v ⊎ PlaysFront c.words start t v) (λ t v x. broken_is c start s t v unended unfaulty x) c.before.desk c.after.desk plays)) [
       | inl x ↦ inl (record {
         desk = both_to Rest (TouchesInstance (instance_word c.words)) (λ t v e. inr (
           length t.instance,
@@ -172,16 +172,31 @@ pub replays_so : StepsCharge → (s : Status) (c : Call) (i : Instance) (start :
 replays_so charge s c i start b is first kept read plays =
     let on = follows c i start s b read plays in
     elim is [
-      | inl e ↦ inl (e, by PlaysWhole c i start b first kept read
-        (both_to (Follows c start s) (PlaysWhole c.words start) (λ t v x. replayed_is c start s t v e x) c.before.desk c.after.desk on))
-      | inr (inl e) ↦ inr (inl (e, by PlaysToFault c i start b first kept read
-        (both_to (Follows c start s) (PlaysToFault c.words start) (λ t v x. bad_tape_is charge c start s t v e x) c.before.desk c.after.desk on)))
-      | inr (inr (inl e)) ↦ inr (inr (inr (inl (e, broken c i start s b
-        (λ f. differs s status.ReadFault status.Replayed (λ (g : status.ReadFault ≡ status.Replayed). cc) e f)
-        (λ f. differs s status.ReadFault status.BadTape (λ (g : status.ReadFault ≡ status.BadTape). cc) e f) first kept read on))))
-      | inr (inr (inr (inl e))) ↦ inr (inr (inr (inr (inl (e, inr (by PlaysFront c i start b first kept read
-        (both_to (Follows c start s) (PlaysFront c.words start) (λ t v x. written_is c start s t v e x) c.before.desk c.after.desk on)))))))
-      | inr (inr (inr (inr e))) ↦ inr (inr (inr (inr (inr (e, broken c i start s b
-        (λ f. differs s status.NoMemory status.Replayed (λ (g : status.NoMemory ≡ status.Replayed). cc) e f)
-        (λ f. differs s status.NoMemory status.BadTape (λ (g : status.NoMemory ≡ status.BadTape). cc) e f) first kept read on)))))
+      | inl e ↦ inl (
+        e,
+        by PlaysWhole c i start b first kept read
+            (both_to (Follows c start s) (PlaysWhole c.words start) (λ t v x. replayed_is c start s t v e x) c.before.desk c.after.desk on),
+      )
+      | inr (inl e) ↦ inr (inl (
+        e,
+        by PlaysToFault c i start b first kept read
+            (both_to (Follows c start s) (PlaysToFault c.words start) (λ t v x. bad_tape_is charge c start s t v e x) c.before.desk c.after.desk on),
+      ))
+      | inr (inr (inl e)) ↦ inr (inr (inr (inl (
+        e,
+        broken c i start s b
+            (λ f. differs s status.ReadFault status.Replayed (λ (g : status.ReadFault ≡ status.Replayed). cc) e f)
+            (λ f. differs s status.ReadFault status.BadTape (λ (g : status.ReadFault ≡ status.BadTape). cc) e f) first kept read on,
+      ))))
+      | inr (inr (inr (inl e))) ↦ inr (inr (inr (inr (inl (
+        e,
+        inr (by PlaysFront c i start b first kept read
+            (both_to (Follows c start s) (PlaysFront c.words start) (λ t v x. written_is c start s t v e x) c.before.desk c.after.desk on)),
+      )))))
+      | inr (inr (inr (inr e))) ↦ inr (inr (inr (inr (inr (
+        e,
+        broken c i start s b
+            (λ f. differs s status.NoMemory status.Replayed (λ (g : status.NoMemory ≡ status.Replayed). cc) e f)
+            (λ f. differs s status.NoMemory status.BadTape (λ (g : status.NoMemory ≡ status.BadTape). cc) e f) first kept read on,
+      )))))
     ]

@@ -65,18 +65,18 @@ behind n grunts f r is events =
 
 pub record Leaves (n grunts : ℕ) (rest : List ℕ) (b : Book) : Type 0 where
   pub cities : b.instance.n ≡ n
-  pub grunts : b.grunts ≡ grunts
+  pub team : b.grunts ≡ grunts
   pub events : AreEvents n grunts rest
 
 played_leaves : StepsCharge → (start : Book) (k : ℕ) (front lines : List ℕ) (b : Book) (rest : List ℕ) → Plays start k front lines b
     → AreEvents start.instance.n start.grunts (front ++ rest) → Leaves start.instance.n start.grunts rest b
-played_leaves charge start k front lines b rest none events = record { cities = refl; grunts = refl; events = events }
+played_leaves charge start k front lines b rest none events = record { cities = refl; team = refl; events = events }
 played_leaves charge start k front lines b rest (one_more j bytes said frame old new e r plays is h step) events =
     let ih = played_leaves charge start j bytes said old (frame ++ rest) plays (subst (AreEvents start.instance.n start.grunts) (append_assoc bytes frame rest) events) in
     let same = (charge old new e r step).start in
     record {
       cities = ap (λ (i : Instance). i.n) same.instance ∙ ih.cities;
-      grunts = same.grunts ∙ ih.grunts;
+      team = same.grunts ∙ ih.team;
       events = (behind start.instance.n start.grunts frame rest is ih.events).1;
     }
 
@@ -88,7 +88,7 @@ not_begun frame rest is begun =
     let header = is.header in
     let whole = is.whole in
     let word = same_word frame rest is.header in
-    elim begun [ | inl few ↦ absurd (omega (arith, few, l, header)) | inr open ↦ (let left = open.left in absurd (omega (arith, left, l, whole, word))) ]
+    elim begun [ inl few ↦ absurd (omega (arith, few, l, header)) | inr more ↦ (let left = more.left in absurd (omega (arith, left, l, whole, word))) ]
 
 no_fault_behind : (n grunts before : ℕ) (b : Book) (rest : List ℕ) (f : Fault) → b.instance.n ≡ n → b.grunts ≡ grunts → AreEvents n grunts rest → before + length rest ≤ most_bytes
     → IsFault b before rest f → ⊥
@@ -110,7 +110,7 @@ faulty_is_bad charge start tape lines fault (stops k front rest said b f plays i
     let left = played_leaves charge start k front said b rest plays good.events in
     let all = length-append front rest in
     let few = good.few in
-    no_fault_behind start.instance.n start.grunts (length front) b rest f left.cities left.grunts left.events (omega (arith, all, few)) is
+    no_fault_behind start.instance.n start.grunts (length front) b rest f left.cities left.team left.events (omega (arith, all, few)) is
 
 -- ---- on a desk that tells
 

@@ -7,8 +7,8 @@
 #![tactic(auto)]
 
 mod benching;
-mod bounding;
 mod bound_texts;
+mod bounding;
 mod checkbounding;
 mod crew;
 mod outcomes;
@@ -29,9 +29,9 @@ pub use running::run;
 pub use statuses::Status;
 
 #[cfg(test)]
-mod changed_bytes;
-#[cfg(test)]
 mod bounds_runs;
+#[cfg(test)]
+mod changed_bytes;
 #[cfg(test)]
 mod failing_calls;
 #[cfg(test)]

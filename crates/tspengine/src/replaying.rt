@@ -27,7 +27,12 @@ pub(crate) fn replay<D: Desk>(alloc: Global, words: &ReplayWords, desk: &mut D) 
 {
     events_are_charged();
     match read_instance(alloc, desk, &words.instance) {
-        Ok(Reading::Instance(instance)) => match begin(alloc, &instance, words.budget, words.grunts) {
+        Ok(Reading::Instance(instance)) => match begin(
+            alloc,
+            &instance,
+            words.budget,
+            words.grunts,
+        ) {
             Ok(boss) => play_from(alloc, boss, &words.tape, desk),
             Err(_) => Status::NoMemory,
         },
