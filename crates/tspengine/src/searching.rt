@@ -186,6 +186,7 @@ fn turns_alone<R: Threads + Wait + Sync, P: Posts + Sync, G: Gate + Sync>(
         &field.instance,
         &field.near,
         &LpWorker,
+        crew.gate,
         TURNS,
         field.seed,
         gap,
