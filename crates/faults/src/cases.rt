@@ -12,7 +12,7 @@ pub(crate) struct Case<'a> {
     pub(crate) prints_as_it_reads: bool,
 }
 
-const SQUARE: &str =
+pub(crate) const SQUARE: &str =
     "NAME : square\nTYPE : TSP\nDIMENSION : 4\nEDGE_WEIGHT_TYPE : EUC_2D\nNODE_COORD_SECTION\n1 0 0\n2 0 10\n3 10 10\n4 10 0\nEOF\n";
 
 /// Two triangles of sides 1, and three edges of length 0 between them.

@@ -18,7 +18,7 @@ use Rattle.verification.specs.Runs.{IsSilent}
 use Rattle.verification.proofs.Tells.{both_to, both_then}
 use Rattle.tspengine.specs.Calls.{Call, SlotsKept}
 use Rattle.tspengine.specs.Steps.{reads, prints}
-use Rattle.tspengine.specs.Bounds.{takes, Checked, BoundRefused}
+use Rattle.tspengine.specs.Bounds.{takes}
 use Rattle.tspengine.specs.Bounding.{ChecksBound, Unjudged, IsSaid, answer_text, answer_status, paths_of_bound}
 use Rattle.tspengine.specs.declared.statuses.Status.{Status}
 use Rattle.tspengine.specs.declared.statuses.Status.TheVariants as status
@@ -62,12 +62,12 @@ unread_certificate c i k b d kept read bind taken =
 -- ---- an answer
 
 -- the answer about some bytes, which is yes exactly where they are accepted
-record IsAnswerOn (i : Instance) (bytes : List ℕ) (ans : Answer) : Type 0 where
+pub record IsAnswerOn (i : Instance) (bytes : List ℕ) (ans : Answer) : Type 0 where
   pub right : Judges i bytes ans
   pub exact : (b : ℕ) → (ans ≡ answers.Yes b) ↔ IsAccepted i bytes b
 
 -- the certificate was bound to a word and judged, and nothing is printed yet
-record IsJudged (i : Instance) (word : List ℕ) (ans : Answer) (t u : Told) : Type 0 where
+pub record IsJudged (i : Instance) (word : List ℕ) (ans : Answer) (t u : Told) : Type 0 where
   pub answer : IsAnswerOn i t.proof_in ans
   pub others : u ≡ takes word t
 

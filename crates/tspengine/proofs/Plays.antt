@@ -1,5 +1,5 @@
 -- A tape that is played from an inlet.
-use Rattle.std.proofs.Common.{◌≡◌, ℕ, ◌+◌, ◌<◌, List, [], ◌++◌, length, take, refl, sym, ap, subst, ◌∙◌, ◌⊎◌, inl, inr, Option, Some, None, append_assoc, ◌-◌, ◌≤◌, length-append, arith, Result, Ok, Err, IfOk}
+use Rattle.std.proofs.Common.{◌≡◌, ℕ, ◌+◌, ◌<◌, List, [], ◌++◌, length, take, refl, sym, ap, subst, ◌∙◌, ◌⊎◌, inl, inr, Option, Some, None, append_assoc, ◌-◌, length-append, arith, Result, Ok, Err, IfOk}
 use Rattle.std.proofs.lemmas.List.{append-nil}
 use Rattle.std.proofs.Math.Seq.{take-append-add}
 use Rattle.ports.specs.Outside.{BothTell, WhereTold}
@@ -14,9 +14,9 @@ use Rattle.opening.specs.declared.Opening.{Opening}
 use Rattle.bossx.specs.Books.{Book}
 use Rattle.bossx.specs.Kept.{IsStart}
 use Rattle.verification.proofs.Tells.{both_to, both_then, both_same}
-use Rattle.tapeboss.specs.Tapes.{most_bytes, none, Plays, IsPlayedTape, Playing, HasPlayed, GoesOn, StopsAt, EndsAs}
+use Rattle.tapeboss.specs.Tapes.{most_bytes, none, IsPlayedTape, Playing, HasPlayed, GoesOn, StopsAt, EndsAs}
 use Rattle.tapeboss.specs.declared.error.Fault.{Fault}
-use Rattle.tspengine.specs.Playing.{first_table, IsFirstBook, AreLinesOf, Goes, EndsWhole, EndsAtFault, BreaksOff, EndsSo, IsPlayed, IsEndOf, GoesFurther}
+use Rattle.tspengine.specs.Playing.{first_table, IsFirstBook, AreLinesOf, Goes, BreaksOff, EndsSo, IsPlayed, IsEndOf, GoesFurther}
 use Rattle.tspengine.specs.declared.statuses.Status.{Status}
 use Rattle.tspengine.specs.declared.statuses.Status.TheVariants as status
 

@@ -15,7 +15,7 @@ use Rattle.tspengine.specs.Calls.{Call, SlotsKept}
 use Rattle.tspengine.specs.Steps.{reads}
 use Rattle.tspengine.specs.Readings.{Unread}
 use Rattle.tspengine.specs.Playing.{Goes, IsFirstBook, EndsWhole, EndsAtFault, BreaksOff, IsPlayed, IsPlayStatus}
-use Rattle.tspengine.specs.Replaying.{takes_tape, replay_told, PlaysWhole, PlaysToFault, PlaysFront, ReplaysBy, BrokenOff, Replays, IsReplay}
+use Rattle.tspengine.specs.Replaying.{replay_told, PlaysWhole, PlaysToFault, PlaysFront, ReplaysBy, BrokenOff, Replays, IsReplay}
 use Rattle.tspengine.specs.declared.statuses.Status.{Status}
 use Rattle.tspengine.specs.declared.statuses.Status.TheVariants as status
 use Rattle.tspengine.proofs.Tapes.{faulty_is_bad}

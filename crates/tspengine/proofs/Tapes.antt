@@ -1,5 +1,5 @@
 -- Tapes that are lists of events have no fault.
-use Rattle.std.proofs.Common.{◌≡◌, ℕ, ◌+◌, ◌-◌, ◌<◌, ◌≤◌, List, [], ◌++◌, length, take, drop, refl, sym, ap, subst, ◌∙◌, inl, inr, Option, Some, None, Result, Ok, Err, append_assoc, length-append, arith}
+use Rattle.std.proofs.Common.{◌≡◌, ℕ, ◌+◌, ◌<◌, ◌≤◌, List, ◌++◌, length, take, drop, refl, sym, ap, subst, ◌∙◌, inl, inr, Option, Some, None, Ok, Err, append_assoc, length-append, arith}
 use Rattle.std.proofs.Math.Seq.{take-append_seam, drop-append_seam, take-append-le}
 use Rattle.std.specs.Int.{w32, from_be_bytes}
 use Rattle.ports.specs.Outside.{BothTell, WhereTold}
@@ -9,9 +9,8 @@ use Rattle.tspinst.specs.Texts.{InstanceText}
 use Rattle.bossx.specs.Books.{Book}
 use Rattle.bossx.specs.Laws.{StepsCharge}
 use Rattle.bossx.specs.declared.events.Event.{Event}
-use Rattle.bossx.specs.declared.events.Reply.{Reply}
 use Rattle.tapeboss.specs.Frames.{IsSize, IsFrame, IsBegun, word_of, heard}
-use Rattle.tapeboss.specs.Tapes.{most_bytes, Plays, none, one_more, IsFault, bad_length, truncated, bad_frame, too_long, IsPlayedTape, ends, stops}
+use Rattle.tapeboss.specs.Tapes.{most_bytes, Plays, none, one_more, IsFault, bad_length, truncated, bad_frame, too_long, IsPlayedTape, stops}
 use Rattle.tapeboss.specs.declared.error.Fault.{Fault}
 use Rattle.tspwords.specs.Program.{grunts_of}
 use Rattle.verification.specs.Counts.{IsTold}

@@ -1,7 +1,7 @@
 -- How calls of `bound` and `checkbound` end.
 use Rattle.std.specs.Prelude.{◌≡◌, ℕ, ◌⊎◌, List, ℤ, take}
 use Rattle.clap.specs.Walk.{Text}
-use Rattle.ports.specs.Desk.{Told, with_outlet_path}
+use Rattle.ports.specs.Desk.{with_outlet_path}
 use Rattle.tspdef.specs.Instances.{Instance}
 use Rattle.tspinst.specs.Texts.{InstanceText}
 use Rattle.onetree.specs.Ascents.{AreRaised}

@@ -1,5 +1,5 @@
 -- A tape that is played from an inlet: what is taken and what is printed.
-use Rattle.std.specs.Prelude.{◌≡◌, ℕ, ◌<◌, ◌⊎◌, List, [], ◌∷◌, ◌++◌, length, take, Option, Some, None}
+use Rattle.std.specs.Prelude.{◌≡◌, ℕ, ◌<◌, ◌⊎◌, List, [], ◌++◌, length, take, Option, Some, None}
 use Rattle.ports.specs.Outside.{BothTell}
 use Rattle.ports.specs.Desk.{Told}
 use Rattle.tspdef.specs.Instances.{Instance}

@@ -45,10 +45,3 @@ returns-in-Err-Failed-clause-ends g c = λ call says kept.
     let b = g.D.Desk.told c.read_instance.new.desk in
     let touches = subst (λ (w : List ℕ). BothTell (TouchesInstance w) a b) (c.deref.ensures ∙ says.instance) c.in-Err-Failed.ensures.unread in
     inr (inr (inl (refl, record { desk = touches; slots = kept })))
-
-pub returns-in-Err-NoMemory-clause-ends : goal.returns-in-Err-NoMemory-clause-ends
-returns-in-Err-NoMemory-clause-ends g c = λ call says kept.
-    let a = g.D.Desk.told c.args.desk.now in
-    let b = g.D.Desk.told c.read_instance.new.desk in
-    let touches = subst (λ (w : List ℕ). BothTell (TouchesInstance w) a b) (c.deref.ensures ∙ says.instance) c.in-Err-NoMemory.ensures.unread in
-    inr (inr (inr (inr (refl, inl (record { desk = touches; slots = kept })))))

@@ -1,4 +1,4 @@
-use Rattle.std.proofs.Common.{List, ℕ, refl, sym, subst, ◌∙◌, inl, inr}
+use Rattle.std.proofs.Common.{◌≡◌, List, ℕ, refl, sym, subst, ◌∙◌, inl, inr}
 use Rattle.ports.specs.Outside.{BothTell}
 use Rattle.ports.specs.Desk.{with_inlet_path}
 use Rattle.ports.specs.declared.desk.Inlet.TheVariants as inlet

@@ -1,4 +1,3 @@
-use Rattle.std.proofs.Common.{IfOk}
 use Rattle.bossx.specs.Kept.{IsStart}
 use Rattle.tspengine.specs.Playing.{IsFirstBook}
 use Rattle.tspengine.proofs.Plays.{first_book, same_table, ok_to}

@@ -1,4 +1,4 @@
-use Rattle.std.proofs.Common.{◌≡◌, ◌++◌, [], None, Some, ap, ◌∙◌, refl, sym, inl, inr, Ok, Err}
+use Rattle.std.proofs.Common.{◌++◌, [], None, Some, ap, ◌∙◌, refl, inl, inr, Err}
 use Rattle.tspengine.specs.declared.statuses.Status.TheVariants as status
 use Rattle.tspengine.proofs.Plays.{ends_whole, ends_at_fault, torn_end, breaks}
 use Rattle.tspengine.proofs.playing.end.Goals as goal

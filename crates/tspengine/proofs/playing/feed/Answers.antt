@@ -1,4 +1,4 @@
-use Rattle.std.proofs.Common.{◌≡◌, ◌++◌, ap, ◌∙◌, refl, sym, inl, inr, Ok, Err}
+use Rattle.std.proofs.Common.{◌++◌, ap, ◌∙◌, refl, inl, inr, Err}
 use Rattle.tspengine.specs.declared.statuses.Status.TheVariants as status
 use Rattle.tspengine.proofs.Plays.{further, torn_on, stops_with, torn_stop, breaks}
 use Rattle.tspengine.proofs.playing.feed.Goals as goal

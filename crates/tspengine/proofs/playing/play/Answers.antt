@@ -1,4 +1,4 @@
-use Rattle.std.proofs.Common.{refl, inl, inr}
+use Rattle.std.proofs.Common.{refl, inr}
 use Rattle.tspengine.specs.declared.statuses.Status.TheVariants as status
 use Rattle.tspengine.proofs.Plays.{played_none}
 use Rattle.tspengine.proofs.playing.play.Goals as goal

@@ -1,4 +1,4 @@
-use Rattle.std.proofs.Common.{◌<◌, length, sym, subst, arith}
+use Rattle.std.proofs.Common.{arith}
 use Rattle.tspengine.proofs.Plays.{on_way_on, less_left, played_so}
 use Rattle.tspengine.proofs.playing.play_pieces.Goals as goal
 

@@ -1,4 +1,4 @@
-use Rattle.std.proofs.Common.{◌≡◌, ◌<◌, ◌≤◌, ◌-◌, length}
+use Rattle.std.proofs.Common.{◌<◌, ◌≤◌, ◌-◌, length}
 use Rattle.tapeboss.specs.Tapes.{most_bytes}
 use Rattle.tspengine.proofs.Plays.{IsOnWay}
 use Rattle.tspengine.proofs.playing.play_pieces.Given as goal

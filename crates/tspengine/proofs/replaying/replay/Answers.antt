@@ -1,9 +1,9 @@
-use Rattle.std.proofs.Common.{List, ℕ, sym, refl, subst, ◌∙◌, inl, inr}
+use Rattle.std.proofs.Common.{List, ℕ, refl, subst, ◌∙◌, inl, inr}
 use Rattle.ports.specs.Outside.{BothTell}
 use Rattle.verification.specs.declared.reading.Reading.{Reading}
 use Rattle.verification.specs.Transfers.{ReadsInstance, RefusesInstance, TouchesInstance}
 use Rattle.verification.specs.Readings.{IsReadingOf}
-use Rattle.tspwords.specs.Program.{budget_of, grunts_of}
+use Rattle.tspwords.specs.Program.{budget_of}
 use Rattle.tspengine.specs.Calls.{on_desk}
 use Rattle.tspengine.specs.Playing.{IsFirstBook}
 use Rattle.tspengine.specs.Replaying.{IsReplay}

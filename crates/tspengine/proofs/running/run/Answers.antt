@@ -206,35 +206,6 @@ returns-in-Ok-Replay g c =
 pub returns-in-Err-Usage : goal.returns-in-Err-Usage
 returns-in-Err-Usage g c =
     let words = map string_bytes c.args.words.now in
-    let s = c.usage-in-Err-Usage.result in
-    let call : Call = record {
-      words = words;
-      before = record {
-        desk = g.D.Desk.told c.args.desk.now;
-        slots = g.L.Slots.told c.args.slots.now;
-        moments = g.L.Slots.past c.args.slots.now;
-        read_faults = g.D.Desk.read_faults c.args.desk.now;
-        write_faults = g.D.Desk.write_faults c.args.desk.now;
-        store_faults = g.L.Slots.faults c.args.slots.now;
-      };
-      after = record {
-        desk = g.D.Desk.told c.usage-in-Err-Usage.new.desk;
-        slots = g.L.Slots.told c.args.slots.now;
-        moments = g.L.Slots.past c.args.slots.now;
-        read_faults = g.D.Desk.read_faults c.usage-in-Err-Usage.new.desk;
-        write_faults = g.D.Desk.write_faults c.usage-in-Err-Usage.new.desk;
-        store_faults = g.L.Slots.faults c.args.slots.now;
-      };
-    } in
-    let ends = c.usage-in-Err-Usage.ensures.ends call refl in
-    let none : ¬ IsTaken words = c.in-Err-Usage.ensures.usage (ap Err c.in-Err-Usage.field-0-is) in
-    runs_so c.bodies_have_one_reading.ensures s call (ends_usage s call (inr (inr (inr none))) ends) (causes_usage s call ends refl c.usage-in-Err-Usage.ensures.same c.usage-in-Err-Usage.ensures.writes)
-
-pub returns-in-Ok-Replay : goal.returns-in-Ok-Replay
-returns-in-Ok-Replay g c =
-    let words = map string_bytes c.args.words.now in
-    let says = subst (λ (x : Command). Says words x) c.in-Ok-Replay.field-0-is c.in-Ok-Replay.ensures.says in
-    let is : IsReplayCall words = record { taken = c.in-Ok-Replay.ensures.taken; named = says.named } in
     let s = c.usage.result in
     let call : Call = record {
       words = words;
@@ -256,63 +227,8 @@ returns-in-Ok-Replay g c =
       };
     } in
     let ends = c.usage.ensures.ends call refl in
-    runs_so c.bodies_have_one_reading.ensures s call (ends_usage s call (inl is) ends) (causes_usage s call ends refl c.usage.ensures.same c.usage.ensures.writes)
-
-pub returns-in-Ok-Bound : goal.returns-in-Ok-Bound
-returns-in-Ok-Bound g c =
-    let words = map string_bytes c.args.words.now in
-    let says = subst (λ (x : Command). Says words x) c.in-Ok-Bound.field-0-is c.in-Ok-Bound.ensures.says in
-    let is : IsBoundCall words = record { taken = c.in-Ok-Bound.ensures.taken; named = says.named } in
-    let s = c.usage-in-Ok-Bound.result in
-    let call : Call = record {
-      words = words;
-      before = record {
-        desk = g.D.Desk.told c.args.desk.now;
-        slots = g.L.Slots.told c.args.slots.now;
-        moments = g.L.Slots.past c.args.slots.now;
-        read_faults = g.D.Desk.read_faults c.args.desk.now;
-        write_faults = g.D.Desk.write_faults c.args.desk.now;
-        store_faults = g.L.Slots.faults c.args.slots.now;
-      };
-      after = record {
-        desk = g.D.Desk.told c.usage-in-Ok-Bound.new.desk;
-        slots = g.L.Slots.told c.args.slots.now;
-        moments = g.L.Slots.past c.args.slots.now;
-        read_faults = g.D.Desk.read_faults c.usage-in-Ok-Bound.new.desk;
-        write_faults = g.D.Desk.write_faults c.usage-in-Ok-Bound.new.desk;
-        store_faults = g.L.Slots.faults c.args.slots.now;
-      };
-    } in
-    let ends = c.usage-in-Ok-Bound.ensures.ends call refl in
-    runs_so c.bodies_have_one_reading.ensures s call (ends_usage s call (inr (inl is)) ends) (causes_usage s call ends refl c.usage-in-Ok-Bound.ensures.same c.usage-in-Ok-Bound.ensures.writes)
-
-pub returns-in-Ok-Checkbound : goal.returns-in-Ok-Checkbound
-returns-in-Ok-Checkbound g c =
-    let words = map string_bytes c.args.words.now in
-    let says = subst (λ (x : Command). Says words x) c.in-Ok-Checkbound.field-0-is c.in-Ok-Checkbound.ensures.says in
-    let is : IsCheckboundCall words = record { taken = c.in-Ok-Checkbound.ensures.taken; named = says.named } in
-    let s = c.usage-in-Ok-Checkbound.result in
-    let call : Call = record {
-      words = words;
-      before = record {
-        desk = g.D.Desk.told c.args.desk.now;
-        slots = g.L.Slots.told c.args.slots.now;
-        moments = g.L.Slots.past c.args.slots.now;
-        read_faults = g.D.Desk.read_faults c.args.desk.now;
-        write_faults = g.D.Desk.write_faults c.args.desk.now;
-        store_faults = g.L.Slots.faults c.args.slots.now;
-      };
-      after = record {
-        desk = g.D.Desk.told c.usage-in-Ok-Checkbound.new.desk;
-        slots = g.L.Slots.told c.args.slots.now;
-        moments = g.L.Slots.past c.args.slots.now;
-        read_faults = g.D.Desk.read_faults c.usage-in-Ok-Checkbound.new.desk;
-        write_faults = g.D.Desk.write_faults c.usage-in-Ok-Checkbound.new.desk;
-        store_faults = g.L.Slots.faults c.args.slots.now;
-      };
-    } in
-    let ends = c.usage-in-Ok-Checkbound.ensures.ends call refl in
-    runs_so c.bodies_have_one_reading.ensures s call (ends_usage s call (inr (inr (inl is))) ends) (causes_usage s call ends refl c.usage-in-Ok-Checkbound.ensures.same c.usage-in-Ok-Checkbound.ensures.writes)
+    let none : ¬ IsTaken words = c.in-Err-Usage.ensures.usage (ap Err c.in-Err-Usage.field-0-is) in
+    runs_so c.bodies_have_one_reading.ensures s call (ends_usage s call none ends) (causes_usage s call ends refl c.usage.ensures.same c.usage.ensures.writes)
 
 pub returns-in-Err-NoMemory : goal.returns-in-Err-NoMemory
 returns-in-Err-NoMemory g c =
