@@ -58,5 +58,5 @@ returns-in-Err-Failed-clause-ends g c = λ call is path kept read.
     let e = g.D.Desk.told c.write.new.desk in
     let bind = subst (λ (w : List ℕ). BothTell (λ t u. u ≡ with_outlet_path w t) b d) path
     (on_ok c.bind_out.result (sym c.is_err.ensures.value ∙ c.if-is_err.false) c.bind_out.ensures.bound) in
-    torn_certificate (on_desk call.before.desk e call) c.args.instance.now c.args.raised.now b d is kept read bind 
+    torn_certificate (on_desk call.before.desk e call) c.args.instance.now c.args.raised.now b d is kept read bind
     (subst (λ (p : List ℤ). AddsFront c.args.instance.now p d e) c.deref.ensures.value (c.in-Err-Failed.ensures.front (ap Err c.in-Err-Failed.field-0-is)))
