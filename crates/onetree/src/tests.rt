@@ -7,7 +7,7 @@ mod values;
 
 ghost use Rattle.std.specs.Prelude.{◌≡◌, IfOk};
 
-use crate::{Answer, ascend, check, write};
+use crate::{Answer, WriteError, ascend, check, write};
 use distx::{Kind, Point};
 use ports::{MemDesk, Room};
 use std::alloc::Global;
@@ -81,11 +81,21 @@ fn answer_of(alloc: Global, instance: &Instance, bytes: &[u8]) -> Result<Answer,
     }
 }
 
+/// The bound that is written to a desk for the duals that so many steps lead to.
+fn written(
+    alloc: Global,
+    desk: &mut MemDesk,
+    instance: &Instance,
+    steps: u32,
+) -> Result<Result<u64, WriteError>, Fail> {
+    let duals = ascend(alloc, instance, steps)?;
+    Ok(write(alloc, desk, instance, &duals))
+}
+
 /// The certificate that so many steps lead to, and its bound.
 fn certificate_of(alloc: Global, instance: &Instance, steps: u32) -> Result<(u64, Vec<u8>), Fail> {
-    let duals = ascend(alloc, instance, steps)?;
     let mut desk = desk(alloc, b"", &[], &[])?;
-    match write(alloc, &mut desk, instance, &duals) {
+    match written(alloc, &mut desk, instance, steps)? {
         Ok(bound) => Ok((bound, Vec::from_slice(alloc, desk.proof())?)),
         Err(_) => Err("not written".into()),
     }

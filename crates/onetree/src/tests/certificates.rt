@@ -1,7 +1,7 @@
 //! Certificates, written and checked.
 
-use super::{answer_of, certificate_of, desk, prism, square};
-use crate::{Answer, CheckError, WriteError, ascend, check, write};
+use super::{answer_of, certificate_of, desk, prism, square, written};
+use crate::{Answer, CheckError, WriteError, check};
 use std::alloc::Global;
 use std::test::Fail;
 use tspinst::Instance;
@@ -107,10 +107,11 @@ fn a_failed_read_is_told(rt: HostRuntime) -> Result<(), Fail> {
 fn a_failed_write_leaves_a_front(rt: HostRuntime) -> Result<(), Fail> {
     let alloc = rt.alloc();
     let square = square(alloc)?;
-    let duals = ascend(alloc, &square, 0)?;
-    let mut unwritten = desk(alloc, b"", &[], &[2])?;
-    let written = write(alloc, &mut unwritten, &square, &duals);
-    assert_eq!(rt; written, Err(WriteError::Failed));
-    assert!(rt; unwritten.proof() == b"TSPTREE 1\nN".as_slice());
+    let mut desk = desk(alloc, b"", &[], &[2])?;
+    assert_eq!(rt;
+        written(alloc, &mut desk, &square, 0)?,
+        Err(WriteError::Failed)
+    );
+    assert!(rt; desk.proof() == b"TSPTREE 1\nN".as_slice());
     Ok(())
 }
