@@ -1,0 +1,210 @@
+//! Duals that are raised: how good they are, and that they are at rest where they are not raised far.
+
+use super::of_points;
+use crate::ascent::sized;
+use crate::{ascend, bound_of, held_karp};
+use distx::Point;
+use std::alloc::Global;
+use std::test::Fail;
+use tspinst::Instance;
+
+/// How many units one length is.
+const SCALE: i128 = 1 << 20;
+
+/// The least gain that counts, in units.
+const GAIN: i128 = 1 << 10;
+
+/// Numbers that look drawn.
+#[derive(Drop)]
+struct Draw {
+    state: u64,
+}
+
+impl Draw {
+    /// A number below 2^20 that is no greater than another.
+    fn up_to(&mut self, most: u64) -> i32 {
+        self.state = self
+            .state
+            .wrapping_mul(6_364_136_223_846_793_005)
+            .wrapping_add(1_442_695_040_888_963_407);
+        ((self.state >> 44) % (most | 1)) as i32
+    }
+}
+
+/// So many drawn cities in a square of about this side.
+fn drawn_cities(alloc: Global, seed: u64, n: u32, side: u64) -> Result<Instance, Fail> {
+    let mut draw = Draw { state: seed };
+    let mut points = Vec::new(alloc);
+    for _ in 0..n {
+        let x = draw.up_to(side);
+        let y = draw.up_to(side);
+        points.push(Point::new(x, y))?;
+    }
+    of_points(alloc, &points)
+}
+
+/// The value of some duals, in units.
+fn value_of(alloc: Global, instance: &Instance, duals: &[i64]) -> Result<i128, Fail> {
+    let duals = sized(alloc, instance, duals)?;
+    Ok(held_karp(alloc, instance, &duals)?)
+}
+
+/// Whether a change of the dual of a city by so much leaves a value below a goal.
+fn stays_below(
+    alloc: Global,
+    instance: &Instance,
+    duals: &[i64],
+    city: usize,
+    change: i64,
+    goal: i128,
+) -> Result<bool, Fail> {
+    let mut changed = Vec::from_slice(alloc, duals)?;
+    if let Some(dual) = changed.get_mut(city) {
+        *dual = dual.wrapping_add(change);
+    }
+    Ok(value_of(alloc, instance, &changed)? < goal)
+}
+
+/// Whether no change of the dual of a city, up or down by a power of two from 2^10 to 2^40, reaches a goal.
+fn is_still(
+    alloc: Global,
+    instance: &Instance,
+    duals: &[i64],
+    city: usize,
+    goal: i128,
+) -> Result<bool, Fail> {
+    for power in 10..=40 {
+        let change = 1i64 << power;
+        let up = stays_below(alloc, instance, duals, city, change, goal)?;
+        let down = stays_below(alloc, instance, duals, city, -change, goal)?;
+        if !up || !down {
+            return Ok(false);
+        }
+    }
+    Ok(true)
+}
+
+/// How many cities have a dual whose change by a power of two, from 2^10 to 2^40, raises the value by 2^10 or more.
+fn moving(alloc: Global, instance: &Instance, duals: &[i64]) -> Result<u32, Fail> {
+    let goal = value_of(alloc, instance, duals)?.wrapping_add(GAIN);
+    let mut moving = 0u32;
+    for city in 0..duals.len() {
+        if !is_still(alloc, instance, duals, city, goal)? {
+            moving = moving.wrapping_add(1);
+        }
+    }
+    Ok(moving)
+}
+
+/// By how many units so many steps raise the value.
+fn gain(alloc: Global, instance: &Instance, steps: u32) -> Result<i128, Fail> {
+    let start = value_of(alloc, instance, &[])?;
+    let duals = ascend(alloc, instance, steps)?;
+    let end = value_of(alloc, instance, &duals)?;
+    Ok(end.wrapping_sub(start))
+}
+
+#[test]
+fn no_steps_leave_all_duals_zero(rt: HostRuntime) -> Result<(), Fail> {
+    let alloc = rt.alloc();
+    let instance = drawn_cities(alloc, 1, 30, 1000)?;
+    assert!(rt; ascend(alloc, &instance, 0)?.iter().all(|dual| *dual == 0));
+    Ok(())
+}
+
+#[test]
+fn steps_raise_the_value(rt: HostRuntime) -> Result<(), Fail> {
+    let alloc = rt.alloc();
+    for seed in 1..4u64 {
+        let instance = drawn_cities(alloc, seed, 30, 1000)?;
+        assert!(rt; 100 * SCALE < gain(alloc, &instance, 40)?);
+    }
+    Ok(())
+}
+
+#[test]
+fn duals_that_are_not_raised_far_are_at_rest(rt: HostRuntime) -> Result<(), Fail> {
+    let alloc = rt.alloc();
+    for seed in 1..6u64 {
+        let instance = drawn_cities(alloc, seed, 7, 8)?;
+        let duals = ascend(alloc, &instance, 10_000)?;
+        assert!(rt; gain(alloc, &instance, 10_000)? < 10_000 * GAIN);
+        assert!(rt; moving(alloc, &instance, &duals)? == 0);
+    }
+    Ok(())
+}
+
+/// A `Pcg32` of the crate `rand_pcg` (O'Neill 2014).
+#[derive(Drop)]
+struct Pcg {
+    state: u64,
+    step: u64,
+}
+
+/// The word that a state gives: its high bits, shifted and turned.
+fn word_of(state: u64) -> u32 {
+    let mixed = (((state >> 18) ^ state) >> 27) & 0xffff_ffff;
+    (mixed as u32).rotate_right((state >> 59) as u32)
+}
+
+/// The state behind another.
+fn behind(state: u64, step: u64) -> u64 {
+    state
+        .wrapping_mul(6_364_136_223_846_793_005)
+        .wrapping_add(step)
+}
+
+impl Pcg {
+    /// The generator that a seed starts.
+    fn new(seed: u64) -> Pcg {
+        let first = behind(seed, SEEDING);
+        let second = behind(first, SEEDING);
+        let third = behind(second, SEEDING);
+        let last = behind(third, SEEDING);
+        let state = u64::from(word_of(first)) | u64::from(word_of(second)) << 32;
+        let step = u64::from(word_of(third)) | u64::from(word_of(last)) << 32 | 1;
+        Pcg {
+            state: behind(state.wrapping_add(step), step),
+            step,
+        }
+    }
+
+    /// A coordinate: the high 20 bits of the next word.
+    fn coordinate(&mut self) -> i32 {
+        let word = word_of(self.state);
+        self.state = behind(self.state, self.step);
+        (word >> 12) as i32
+    }
+}
+
+/// The step of the generator that draws a state from a seed.
+const SEEDING: u64 = 11_634_580_027_462_260_723;
+
+/// The instance of so many cities that a seed draws for the benches.
+fn bench_instance(alloc: Global, seed: u64, n: u32) -> Result<Instance, Fail> {
+    let mut random = Pcg::new(seed);
+    let mut points = Vec::new(alloc);
+    for _ in 0..n {
+        let x = random.coordinate();
+        let y = random.coordinate();
+        points.push(Point::new(x, y))?;
+    }
+    of_points(alloc, &points)
+}
+
+/// The bound after so many steps.
+fn bound_after(alloc: Global, instance: &Instance, steps: u32) -> Result<u64, Fail> {
+    let duals = ascend(alloc, instance, steps)?;
+    Ok(bound_of(alloc, instance, &duals)?)
+}
+
+/// Another program computed the greatest Held-Karp values of these instances, rounded down: 8305658 and 11465136.
+#[test]
+fn a_thousand_steps_come_within_half_a_percent(rt: HostRuntime) -> Result<(), Fail> {
+    let alloc = rt.alloc();
+    let hundred = bound_after(alloc, &bench_instance(alloc, 5, 100)?, 1000)?;
+    assert!(rt; 8_264_130 < hundred && hundred <= 8_305_659);
+    let two_hundred = bound_after(alloc, &bench_instance(alloc, 2, 200)?, 1000)?;
+    assert!(rt; 11_407_810 < two_hundred && two_hundred <= 11_465_137);
+    Ok(())
+}
