@@ -1,6 +1,10 @@
 //! Worked tapes.
 
+mod drawn;
+mod frames;
+mod spoken;
 mod squares;
+mod texts;
 
 use self::squares::{answers, answers_by_bytes, text};
 use std::alloc::Global;
