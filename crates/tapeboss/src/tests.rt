@@ -1,10 +1,6 @@
 //! Worked tapes.
 
-mod drawn;
-mod frames;
-mod spoken;
 mod squares;
-mod texts;
 
 use self::squares::{answers, answers_by_bytes, text};
 use std::alloc::Global;

@@ -19,7 +19,7 @@ const TWO_GRUNTS_LINES: &[u8] =
 
 /// A run over the square, with its desk.
 #[derive(Drop)]
-struct Played {
+struct Ending {
     status: Status,
     desk: MemDesk,
 }
@@ -32,7 +32,7 @@ fn played<R: Threads + Wait + Sync>(
     most_read: usize,
     bad_reads: &[u64],
     bad_writes: &[u64],
-) -> Result<Played, AllocError>
+) -> Result<Ending, AllocError>
     requires { 0 < most_read }
 {
     let mut desk = MemDesk::new(
@@ -49,7 +49,7 @@ fn played<R: Threads + Wait + Sync>(
     let mut slots = MemSlots::new(alloc, b"", b"", &[], ROOM)?;
     let words = words(alloc, "tspc replay a t --budget 1 --grunts 2")?;
     let status = run(rt, alloc, &words, &mut desk, &mut slots, &OPEN, &OpenGate);
-    Ok(Played { status, desk })
+    Ok(Ending { status, desk })
 }
 
 #[test]

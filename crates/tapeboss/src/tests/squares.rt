@@ -70,7 +70,7 @@ fn square_tape(alloc: Global) -> Result<Tape, Fail> {
 }
 
 /// What is told at the end.
-pub(super) fn fault_of(ending: Result<(), TapeError>) -> Result<Option<(Fault, u64)>, Fail> {
+fn fault_of(ending: Result<(), TapeError>) -> Result<Option<(Fault, u64)>, Fail> {
     match ending {
         Ok(()) => Ok(None),
         Err(TapeError::Bad(fault, frame)) => Ok(Some((fault, frame))),

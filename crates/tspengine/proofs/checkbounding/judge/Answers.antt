@@ -48,5 +48,8 @@ pub returns-then-is_err-clause-ends : goal.returns-then-is_err-clause-ends
 returns-then-is_err-clause-ends g c = λ call path kept read.
     let b = g.D.Desk.told c.args.desk.now in
     let d = g.D.Desk.told c.bind_in.new.self in
-    inr (inr (inr (inl (refl, unopened (on_desk call.before.desk d call) c.args.instance.now b kept read
-    (on_err c.bind_in.result (sym c.is_err.ensures.value ∙ c.if-is_err.true) c.bind_in.ensures.err)))))
+    inr (inr (inr (inl (
+      refl,
+      unopened (on_desk call.before.desk d call) c.args.instance.now b kept read
+          (on_err c.bind_in.result (sym c.is_err.ensures.value ∙ c.if-is_err.true) c.bind_in.ensures.err),
+    ))))

@@ -1,6 +1,6 @@
 //! What is said of a node, as the text of a report.
 
-use plainbook::{CITIES, Duals, Said, holds};
+use crate::{CITIES, Duals, Said, holds};
 use std::alloc::Global;
 use std::test::Fail;
 

@@ -2,14 +2,13 @@
 
 use super::frames::{put_call, put_frame, put_offer, put_report};
 use super::spoken::{ALL_HEARD, Tally, line_of};
-use super::squares::fault_of;
 use super::texts::{can_be_said, report_text, tour_text};
-use crate::{Fault, Tape, TapeError};
+use crate::{Draw, PlainBook, Said, Start, boss, five_points, number};
 use bossx::Reply;
 use distx::Kind;
-use plainbook::{Draw, PlainBook, Said, Start, boss, five_points, number};
 use std::alloc::Global;
 use std::test::Fail;
+use tapeboss::{Fault, Tape, TapeError};
 
 /// How many events a tape has.
 const EVENTS: u32 = 100;
@@ -268,6 +267,15 @@ fn play_in_pieces(
         rest = more;
     }
     tape.feed(alloc, rest, out)?.finish(alloc, out)
+}
+
+/// What is told at the end.
+fn fault_of(ending: Result<(), TapeError>) -> Result<Option<(Fault, u64)>, Fail> {
+    match ending {
+        Ok(()) => Ok(None),
+        Err(TapeError::Bad(fault, frame)) => Ok(Some((fault, frame))),
+        Err(TapeError::NoMemory) => Err("no memory".into()),
+    }
 }
 
 /// Whether a tape is answered with the lines of a case.
