@@ -302,7 +302,7 @@ fn is_played_plainly(alloc: Global, list: u32, tally: &mut Tally) -> Result<bool
 #[test]
 fn drawn_tapes_are_answered_as_by_a_plain_book(rt: HostRuntime) -> Result<(), Fail> {
     let mut tally = Tally { heard: 0 };
-    for list in 0..20 {
+    for list in 0..2000 {
         assert!(rt;
             is_played_plainly(rt.alloc(), list, &mut tally)?,
             "tape {list}"
