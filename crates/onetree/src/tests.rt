@@ -27,12 +27,6 @@ fn square(alloc: Global) -> Result<Instance, Fail>
     Ok(from_points(alloc, Kind::Euc, &points)?)
 }
 
-/// A triangle of sides 3, 4 and 5.
-fn triangle(alloc: Global) -> Result<Instance, Fail> {
-    let points = [Point::new(0, 0), Point::new(0, 3), Point::new(4, 0)];
-    Ok(from_points(alloc, Kind::Euc, &points)?)
-}
-
 /// The prism: two triangles of sides 1, and three edges of length 0 between them.
 fn prism(alloc: Global) -> Result<Instance, Fail> {
     let text =

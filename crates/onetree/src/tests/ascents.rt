@@ -21,24 +21,34 @@ struct Draw {
 }
 
 impl Draw {
-    /// A number below 2^20 that is no greater than another.
-    fn up_to(&mut self, most: u64) -> i32 {
+    /// A number below a limit.
+    fn below(&mut self, limit: u64) -> u64 {
         self.state = self
             .state
             .wrapping_mul(6_364_136_223_846_793_005)
             .wrapping_add(1_442_695_040_888_963_407);
-        ((self.state >> 44) % (most | 1)) as i32
+        if limit == 0 {
+            return 0;
+        }
+        (self.state >> 33) % limit
     }
 }
 
-/// So many drawn cities in a square of about this side.
+/// A point of two coordinates, of 2^20 - 1 at most each.
+fn point(x: u64, y: u64) -> Point {
+    let across = x.min(1_048_575) as i32;
+    let along = y.min(1_048_575) as i32;
+    Point::new(across, along)
+}
+
+/// So many drawn cities in a square of this side.
 fn drawn_cities(alloc: Global, seed: u64, n: u32, side: u64) -> Result<Instance, Fail> {
     let mut draw = Draw { state: seed };
     let mut points = Vec::new(alloc);
     for _ in 0..n {
-        let x = draw.up_to(side);
-        let y = draw.up_to(side);
-        points.push(Point::new(x, y))?;
+        let x = draw.below(side);
+        let y = draw.below(side);
+        points.push(point(x, y))?;
     }
     of_points(alloc, &points)
 }
@@ -73,13 +83,14 @@ fn is_still(
     city: usize,
     goal: i128,
 ) -> Result<bool, Fail> {
-    for power in 10..=40 {
-        let change = 1i64 << power;
+    let mut change = 1i64 << 10;
+    for _ in 10..=40 {
         let up = stays_below(alloc, instance, duals, city, change, goal)?;
-        let down = stays_below(alloc, instance, duals, city, -change, goal)?;
+        let down = stays_below(alloc, instance, duals, city, change.wrapping_neg(), goal)?;
         if !up || !down {
             return Ok(false);
         }
+        change = change.wrapping_mul(2);
     }
     Ok(true)
 }
@@ -170,10 +181,10 @@ impl Pcg {
     }
 
     /// A coordinate: the high 20 bits of the next word.
-    fn coordinate(&mut self) -> i32 {
+    fn coordinate(&mut self) -> u64 {
         let word = word_of(self.state);
         self.state = behind(self.state, self.step);
-        (word >> 12) as i32
+        u64::from(word >> 12)
     }
 }
 
@@ -187,7 +198,7 @@ fn bench_instance(alloc: Global, seed: u64, n: u32) -> Result<Instance, Fail> {
     for _ in 0..n {
         let x = random.coordinate();
         let y = random.coordinate();
-        points.push(Point::new(x, y))?;
+        points.push(point(x, y))?;
     }
     of_points(alloc, &points)
 }
