@@ -55,14 +55,14 @@ fn three_hundred_rounds_on_six_cities(rt: HostRuntime) -> Result<(), Fail> {
 
 #[test]
 fn two_hundred_rounds_on_seven_cities(rt: HostRuntime) -> Result<(), Fail> {
-    let tally = games(&rt, rt.alloc(), 7, 150)?;
-    assert!(rt; is_as_promised(&tally, 200, 50), "{tally:?}");
+    let tally = games(&rt, rt.alloc(), 7, 200)?;
+    assert!(rt; is_as_promised(&tally, 200, 60), "{tally:?}");
     Ok(())
 }
 
 #[test]
 fn a_hundred_rounds_on_eight_cities(rt: HostRuntime) -> Result<(), Fail> {
-    let tally = games(&rt, rt.alloc(), 8, 60)?;
-    assert!(rt; is_as_promised(&tally, 100, 10), "{tally:?}");
+    let tally = games(&rt, rt.alloc(), 8, 100)?;
+    assert!(rt; is_as_promised(&tally, 100, 15), "{tally:?}");
     Ok(())
 }
