@@ -2,7 +2,7 @@
 
 use super::of_points;
 use crate::ascent::sized;
-use crate::{ascend, bound_of, held_karp};
+use crate::{ascend, held_karp};
 use distx::Point;
 use std::alloc::Global;
 use std::test::Fail;
@@ -142,80 +142,5 @@ fn duals_that_are_not_raised_far_are_at_rest(rt: HostRuntime) -> Result<(), Fail
         assert!(rt; gain(alloc, &instance, 10_000)? < 10_000 * GAIN);
         assert!(rt; moving(alloc, &instance, &duals)? == 0);
     }
-    Ok(())
-}
-
-/// A `Pcg32` of the crate `rand_pcg` (O'Neill 2014).
-#[derive(Drop)]
-struct Pcg {
-    state: u64,
-    step: u64,
-}
-
-/// The word that a state gives: its high bits, shifted and turned.
-fn word_of(state: u64) -> u32 {
-    let mixed = (((state >> 18) ^ state) >> 27) & 0xffff_ffff;
-    (mixed as u32).rotate_right((state >> 59) as u32)
-}
-
-/// The state behind another.
-fn behind(state: u64, step: u64) -> u64 {
-    state
-        .wrapping_mul(6_364_136_223_846_793_005)
-        .wrapping_add(step)
-}
-
-impl Pcg {
-    /// The generator that a seed starts.
-    fn new(seed: u64) -> Pcg {
-        let first = behind(seed, SEEDING);
-        let second = behind(first, SEEDING);
-        let third = behind(second, SEEDING);
-        let last = behind(third, SEEDING);
-        let state = u64::from(word_of(first)) | u64::from(word_of(second)) << 32;
-        let step = u64::from(word_of(third)) | u64::from(word_of(last)) << 32 | 1;
-        Pcg {
-            state: behind(state.wrapping_add(step), step),
-            step,
-        }
-    }
-
-    /// A coordinate: the high 20 bits of the next word.
-    fn coordinate(&mut self) -> u64 {
-        let word = word_of(self.state);
-        self.state = behind(self.state, self.step);
-        u64::from(word >> 12)
-    }
-}
-
-/// The step of the generator that draws a state from a seed.
-const SEEDING: u64 = 11_634_580_027_462_260_723;
-
-/// The instance of so many cities that a seed draws for the benches.
-fn bench_instance(alloc: Global, seed: u64, n: u32) -> Result<Instance, Fail> {
-    let mut random = Pcg::new(seed);
-    let mut points = Vec::new(alloc);
-    for _ in 0..n {
-        let x = random.coordinate();
-        let y = random.coordinate();
-        points.push(point(x, y))?;
-    }
-    of_points(alloc, &points)
-}
-
-/// The bound after so many steps.
-fn bound_after(alloc: Global, instance: &Instance, steps: u32) -> Result<u64, Fail> {
-    let duals = ascend(alloc, instance, steps)?;
-    Ok(bound_of(alloc, instance, &duals)?)
-}
-
-/// Another program computed the greatest Held-Karp values of these instances, rounded down: 8305658 and 11465136.
-#[test]
-fn a_thousand_steps_come_within_half_a_percent(rt: HostRuntime) -> Result<(), Fail> {
-    let alloc = rt.alloc();
-    let hundred = bound_after(alloc, &bench_instance(alloc, 5, 100)?, 1000)?;
-    assert!(rt; 8_264_130 < hundred && hundred <= 8_305_659);
-    let two_hundred = bound_after(alloc, &bench_instance(alloc, 2, 200)?, 1000)?;
-    assert!(rt; 11_407_810 < two_hundred && two_hundred <= 11_465_137);
     Ok(())
 }
