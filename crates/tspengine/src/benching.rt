@@ -14,7 +14,7 @@ use crate::statuses::Status;
 use bossx::Boss;
 use cutpool::CutPool;
 use grunt::LpWorker;
-use ports::Desk;
+use ports::{Desk, OpenGate};
 use std::alloc::{AllocError, Global};
 use tspgen::make;
 use tspinst::Instance;
@@ -60,7 +60,7 @@ fn found(alloc: Global, instance: &Instance, budget: u32, seed: u64) -> Result<B
     let mut pool = CutPool::new(alloc, instance.n());
     let worker = LpWorker::new(alloc);
     let boss = alone(
-        alloc, boss, &mut pool, instance, &near, &worker, budget, seed, 0,
+        alloc, boss, &mut pool, instance, &near, &worker, &OpenGate, budget, seed, 0,
     )?;
     let _book = boss.snapshot();
     Ok(boss)

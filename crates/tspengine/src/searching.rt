@@ -187,6 +187,7 @@ fn turns_alone<R: Threads + Wait + Sync, P: Posts + Sync, G: Gate + Sync>(
         &field.instance,
         &field.near,
         &field.worker,
+        crew.gate,
         TURNS,
         field.seed,
         gap,

@@ -1,0 +1,4 @@
+//! The boss beside the plain book.
+
+mod acts;
+mod drawn;
