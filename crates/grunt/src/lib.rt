@@ -12,7 +12,6 @@ mod efforts;
 mod light;
 mod missed;
 mod offers;
-mod probes;
 mod proposals;
 mod reasons;
 mod rounds;

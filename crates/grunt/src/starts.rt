@@ -262,7 +262,7 @@ fn begin_near(
 }
 
 /// A node's relaxation with what a parent left.
-pub(crate) fn begin_from(
+fn begin_from(
     alloc: Global,
     instance: &Instance,
     path: &Path,
