@@ -61,11 +61,7 @@ fn main(rt: HostRuntime) -> Result<()> {
     let worker = LpWorker::new(rt.alloc());
     let mut c = Effort::none();
     let boss = alone_counted(
-<<<<<<< HEAD
-        rt.alloc(), boss, &mut shared, &instance, &near, &worker, budget, 1, 0, &mut c,
-=======
         rt.alloc(), boss, &mut shared, &instance, &near, &worker, &OpenGate, budget, 1, 0, &mut c,
->>>>>>> d16a4faf9f3281e763e6e13f2d0aee2006499b45
     )?;
     let end = rt.thread_cpu_time()?;
     let took = end.saturating_sub(start).as_millis();
