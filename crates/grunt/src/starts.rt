@@ -265,7 +265,7 @@ fn begin_near(
 }
 
 /// A node's relaxation with what a parent left.
-fn begin_from(
+pub(crate) fn begin_from(
     alloc: Global,
     instance: &Instance,
     path: &Path,

@@ -407,11 +407,11 @@ fn lying_start_is_harmless(
     Ok(is_alike && is_as_promised(rt, alloc, instance, &work, best)?)
 }
 
-/// How many of twelve drawn starts are harmless at the root of an instance.
+/// How many of four drawn starts are harmless at the root of an instance.
 fn harmless_starts(rt: &impl Abort, alloc: Global, text: &[u8], best: u64) -> Result<u32, Fail> {
     let instance = told(alloc, text)?;
     let mut count: u32 = 0;
-    for seed in 0..12u64 {
+    for seed in 0..4u64 {
         if lying_start_is_harmless(rt, alloc, &instance, best, seed)? {
             count = count.wrapping_add(1);
         }
@@ -422,15 +422,15 @@ fn harmless_starts(rt: &impl Abort, alloc: Global, text: &[u8], best: u64) -> Re
 #[test]
 fn starts_that_lie_close_what_is_closed_without(rt: HostRuntime) -> Result<(), Fail> {
     let alloc = rt.alloc();
-    assert_eq!(rt; harmless_starts(&rt, alloc, PRISM, 4)?, 12);
-    assert_eq!(rt; harmless_starts(&rt, alloc, GROUPS, 24)?, 12);
+    assert_eq!(rt; harmless_starts(&rt, alloc, PRISM, 4)?, 4);
+    assert_eq!(rt; harmless_starts(&rt, alloc, GROUPS, 24)?, 4);
     Ok(())
 }
 
 #[test]
 fn starts_that_lie_split_what_is_split_without(rt: HostRuntime) -> Result<(), Fail> {
     let alloc = rt.alloc();
-    assert_eq!(rt; harmless_starts(&rt, alloc, PETERSEN, 11)?, 12);
+    assert_eq!(rt; harmless_starts(&rt, alloc, PETERSEN, 11)?, 4);
     Ok(())
 }
 
