@@ -1,4 +1,4 @@
-use Rattle.std.proofs.Common.{◌≡◌, ℕ, ◌<◌, length, sym, subst, ap, ◌∙◌}
+use Rattle.std.proofs.Common.{ℕ, ◌<◌, length, sym, subst, ap}
 use Rattle.branchx.specs.Path.{Conditions}
 use Rattle.branchx.specs.Cond.{condition_of}
 use Rattle.grunt.proofs.RowLemmas.{few_after}
