@@ -23,15 +23,27 @@ hundredths_missed (suc k) bound = (suc k - bound) * 10000 / suc k
 abbrev pub percent : ℕ → List ℕ
 percent h = codes ", gap " ++ decimal (h / 100) ++ codes "." ++ decimal (h / 10 % 10) ++ decimal (h % 10) ++ codes " %"
 
--- what is told of a bound, if there is one
-abbrev pub bound_text : ℕ → Option ℕ → List ℕ
-bound_text best None = []
-bound_text best (Some bound) = codes ", estimated bound " ++ decimal bound ++ percent (hundredths_missed best bound)
+-- what is told of a bound
+abbrev pub estimate_text : ℕ → List ℕ
+estimate_text bound = codes ", estimated bound " ++ decimal bound
 
--- the seconds, the nodes settled and open, and the best length
+-- the seconds so far
+abbrev pub seconds_text : ℕ → List ℕ
+seconds_text seconds = decimal seconds ++ codes " s: "
+
+-- the nodes settled and open
+abbrev pub nodes_text : ℕ → ℕ → List ℕ
+nodes_text settled free = codes "settled " ++ decimal settled ++ codes ", open " ++ decimal free
+
+-- the best length
+abbrev pub best_text : ℕ → List ℕ
+best_text best = codes ", best " ++ decimal best
+
+-- the seconds, the nodes and the best length
 abbrev pub standing_text : ℕ → ℕ → ℕ → ℕ → List ℕ
-standing_text seconds settled free best = decimal seconds ++ codes " s: settled " ++ decimal settled ++ codes ", open " ++ decimal free ++ codes ", best " ++ decimal best
+standing_text seconds settled free best = (seconds_text seconds ++ nodes_text settled free) ++ best_text best
 
--- the line
+-- the line, with what is told of the bound where there is one
 abbrev pub line_text : ℕ → ℕ → ℕ → ℕ → Option ℕ → List ℕ
-line_text seconds settled free best bound = standing_text seconds settled free best ++ bound_text best bound
+line_text seconds settled free best None = standing_text seconds settled free best
+line_text seconds settled free best (Some bound) = standing_text seconds settled free best ++ estimate_text bound ++ percent (hundredths_missed best bound)

@@ -77,8 +77,8 @@ impl<R: Clock + Eprint + Drop> Gate for Progress<R> {
             };
             let standing = Standing {
                 seconds,
-                settled,
-                open,
+                settled: settled as u64,
+                open: open as u64,
                 best,
                 bound,
             };

@@ -14,3 +14,5 @@ pub use gate::Progress;
 pub use how::{How, choose, is_asked};
 pub use line::{Standing, bound_of, text};
 
+#[cfg(test)]
+mod tests;

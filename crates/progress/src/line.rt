@@ -1,6 +1,6 @@
 //! The line that tells how a search stands.
 ghost use Rattle.std.specs.Prelude.{◌≡◌, ℕ, ◌++◌, IfOk, string_bytes, decimal};
-ghost use Rattle.progress.specs.Lines.{line_text, standing_text, bound_text, percent, length_of_key, hundredths_missed};
+ghost use Rattle.progress.specs.Lines.{line_text, standing_text, seconds_text, nodes_text, best_text, estimate_text, percent, length_of_key, hundredths_missed};
 
 use std::alloc::{AllocError, Global};
 use std::fmt::Write;
@@ -10,8 +10,8 @@ use std::fmt::Write;
 #[derive(Clone, Copy, Debug, PartialEq, Eq)]
 pub struct Standing {
     pub seconds: u64,
-    pub settled: u32,
-    pub open: u32,
+    pub settled: u64,
+    pub open: u64,
     pub best: u64,
     pub bound: Option<u64>,
 }
@@ -40,7 +40,7 @@ fn add(line: &mut String, word: &str, number: u128) -> Result<(), AllocError>
     write!(line, "{word}{number}")
 }
 
-/// Adds hundredths as a number with two places behind its point.
+/// Adds hundredths of a percent, with two places behind the point.
 fn add_percent(line: &mut String, hundredths: u128) -> Result<(), AllocError>
     ensures { IfOk result (λ _. string_bytes line.new ≡ string_bytes line.old ++ percent hundredths) }
 {
@@ -50,26 +50,60 @@ fn add_percent(line: &mut String, hundredths: u128) -> Result<(), AllocError>
     line.push_str(" %")
 }
 
-/// Adds what is told of the bound.
-fn add_bound(line: &mut String, best: u64, bound: Option<u64>) -> Result<(), AllocError>
-    ensures { IfOk result (λ _. string_bytes line.new ≡ string_bytes line.old ++ bound_text best bound) }
+/// Adds the bound.
+fn add_estimate(line: &mut String, bound: u64) -> Result<(), AllocError>
+    ensures { IfOk result (λ _. string_bytes line.new ≡ string_bytes line.old ++ estimate_text bound) }
 {
-    let Some(bound) = bound else {
-        return Ok(());
-    };
-    add(line, ", estimated bound ", bound as u128)?;
-    add_percent(line, hundredths(best, bound))
+    write!(line, ", estimated bound {bound}")
 }
 
-/// Adds the seconds, the nodes and the best length.
-fn add_standing(line: &mut String, standing: &Standing) -> Result<(), AllocError>
-    ensures { IfOk result (λ _. string_bytes line.new ≡ string_bytes line.old
-        ++ standing_text standing.now.seconds standing.now.settled standing.now.open standing.now.best) }
+/// Adds the bound and the gap.
+fn add_bound(line: &mut String, best: u64, bound: u64) -> Result<(), AllocError>
+    ensures { IfOk result (λ _. string_bytes line.new ≡ string_bytes line.old ++ (estimate_text bound ++ percent (hundredths_missed best bound))) }
 {
-    add(line, "", standing.seconds as u128)?;
-    add(line, " s: settled ", standing.settled as u128)?;
-    add(line, ", open ", standing.open as u128)?;
-    add(line, ", best ", standing.best as u128)
+    let missed = hundredths(best, bound);
+    add_estimate(line, bound)?;
+    add_percent(line, missed)
+}
+
+/// Adds a word and a number of a field.
+fn add_field(line: &mut String, word: &str, number: u64) -> Result<(), AllocError>
+    ensures { IfOk result (λ _. string_bytes line.new ≡ string_bytes line.old ++ (word.now ++ decimal number)) }
+{
+    write!(line, "{word}{number}")
+}
+
+/// The seconds.
+fn seconds_line(alloc: Global, seconds: u64) -> Result<String, AllocError>
+    ensures { IfOk result (λ line. string_bytes line ≡ seconds_text seconds) }
+{
+    format!(in alloc; "{seconds} s: ")
+}
+
+/// Adds the nodes.
+fn add_nodes(line: &mut String, settled: u64, free: u64) -> Result<(), AllocError>
+    ensures { IfOk result (λ _. string_bytes line.new ≡ string_bytes line.old ++ nodes_text settled free) }
+{
+    add_field(line, "settled ", settled)?;
+    add_field(line, ", open ", free)
+}
+
+/// Adds the best length.
+fn add_best(line: &mut String, best: u64) -> Result<(), AllocError>
+    ensures { IfOk result (λ _. string_bytes line.new ≡ string_bytes line.old ++ best_text best) }
+{
+    write!(line, ", best {best}")
+}
+
+/// The line without a bound.
+fn standing_line(alloc: Global, standing: &Standing) -> Result<String, AllocError>
+    ensures { IfOk result (λ line. string_bytes line
+        ≡ standing_text standing.now.seconds standing.now.settled standing.now.open standing.now.best) }
+{
+    let mut line = seconds_line(alloc, standing.seconds)?;
+    add_nodes(&mut line, standing.settled, standing.open)?;
+    add_best(&mut line, standing.best)?;
+    Ok(line)
 }
 
 /// The line: ASCII, with no end.
@@ -77,8 +111,10 @@ pub fn text(alloc: Global, standing: &Standing) -> Result<String, AllocError>
     ensures { IfOk result (λ line. string_bytes line
         ≡ line_text standing.now.seconds standing.now.settled standing.now.open standing.now.best standing.now.bound) }
 {
-    let mut line = String::new(alloc);
-    add_standing(&mut line, standing)?;
-    add_bound(&mut line, standing.best, standing.bound)?;
+    let mut line = standing_line(alloc, standing)?;
+    let Some(bound) = standing.bound else {
+        return Ok(line);
+    };
+    add_bound(&mut line, standing.best, bound)?;
     Ok(line)
 }
