@@ -255,8 +255,7 @@ fn play_together<R: Threads + Wait + Sync>(
     rt: &R,
     alloc: Global,
     worker: &Together,
-) -> Result<Round, Fail>
-{
+) -> Result<Round, Fail> {
     let square = square(alloc)?;
     let near = nearest(alloc, &square, 2)?;
     let boss = begin(alloc, &square, 200, 2)?;
