@@ -7,7 +7,8 @@
 #   ZUKONAWI_PROGRAMS=FOLDER                 the programs of that folder
 #
 # The allocations are those that the program asks of the C library, counted by bench/fail_alloc.c; so one build serves all runs, where
-# `rt try --fail-alloc N` builds the program anew for each N. Needs cc. Prints for each case how many allocations its run makes, and how many
+# `rt try --fail-alloc N` builds the program anew for each N (and those of bench/unproved.py have an allocator of their own, which cannot be
+# counted so). Needs cc. Prints for each case how many allocations its run makes, and how many
 # of the runs ended with status 9.
 set -u
 top=$(cd "$(dirname "$0")/.." && pwd)

@@ -1,5 +1,5 @@
 -- The line that tells how far a search is.
-use Rattle.std.specs.Prelude.{◌≡◌, ℕ, zero, suc, ◌+◌, ◌-◌, ◌*◌, ◌/◌, ◌%◌, min, Bool, true, false, List, [], ◌∷◌, ◌++◌, Option, Some, None, ℤ, pos, negsuc, decimal, codes}
+use Rattle.std.specs.Prelude.{ℕ, zero, suc, ◌-◌, ◌*◌, ◌/◌, ◌%◌, min, Bool, true, false, List, ◌++◌, Option, Some, None, ℤ, pos, negsuc, decimal, codes}
 use Rattle.progress.specs.declared.how.How.{How}
 use Rattle.progress.specs.declared.how.How.TheVariants.{Silent, InPlace, Lines}
 

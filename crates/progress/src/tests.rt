@@ -10,6 +10,7 @@ use std::sync::atomic::{AtomicU64, Ordering};
 use std::time::Duration;
 
 /// A clock that is set by hand, and fails once it stands at the end of time; and a standard error that counts what is printed.
+#[derive(Drop)]
 struct Outside {
     seconds: AtomicU64,
     printed: AtomicU64,
