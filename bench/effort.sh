@@ -23,7 +23,7 @@ use bossx::Boss;
 use cutpool::KIND;
 use grunt::LpWorker;
 use opening::{Opening, find_opening};
-use ports::{Desk, FileDesk, Inlet};
+use ports::{Desk, FileDesk, Inlet, OpenGate};
 use std::env;
 use std::time::CpuClock;
 use treebook::Tree;
@@ -58,9 +58,10 @@ fn main(rt: HostRuntime) -> Result<()> {
     let tree = Tree::with_fixed(rt.alloc(), instance.n(), instance.fixed())?;
     let boss = Boss::start(rt.alloc(), &instance, tree, tour, budget, 1, 0)?;
     let mut shared = MADE;
+    let worker = LpWorker::new(rt.alloc());
     let mut c = Effort::none();
     let boss = alone_counted(
-        rt.alloc(), boss, &mut shared, &instance, &near, &LpWorker, budget, 1, 0, &mut c,
+        rt.alloc(), boss, &mut shared, &instance, &near, &worker, &OpenGate, budget, 1, 0, &mut c,
     )?;
     let end = rt.thread_cpu_time()?;
     let took = end.saturating_sub(start).as_millis();

@@ -1,6 +1,6 @@
 #!/usr/bin/env bash
 # Times the verifier on proof texts of its own: leaves of 100 to 2,000 cities beside a plain C pass over the pairs, 1,000
-# leaves over 200 cities, and lines that no leaf prices. Times are processor times of the program, less those of the same
+# leaves over 200 cities, a text like that of a search, and lines that no leaf prices. Times are processor times of the program, less those of the same
 # instance with a text that is refused at line 1. Outside the gate. Prints a table; figures go into docs/PERFORMANCE.md.
 #
 #   bench/verify.sh              with crates/tspverify/out/tspverify, which `rt ci` leaves there
@@ -94,6 +94,21 @@ def full(splits, closed):
     yield from full(splits[1:], closed)
     yield from full(splits[1:], closed)
 
+def searched(cost, cuts):
+    """A leaf like those of a search: 55 of the cuts, each with a dual of its own."""
+    cities = ''.join(f'P {k + 1} {c * SCALE}\n' for k, c in enumerate(cost))
+    named = sorted(draw.sample(range(1, cuts + 1), 55))
+    return f'L {len(cost)} {len(named)} 0\n' + cities + ''.join(f'Y {k} {draw.randrange(1, 1000)}\n' for k in named)
+
+def grown(splits, leaf_of):
+    """A full tree, split at each depth by the same pair, of which each leaf is made anew."""
+    if not splits:
+        yield leaf_of()
+        return
+    yield f'E {splits[0][0]} {splits[0][1]}\n'
+    yield from grown(splits[1:], leaf_of)
+    yield from grown(splits[1:], leaf_of)
+
 def comb():
     start = draw.randrange(1, 380)
     teeth = ''.join(spell('T', (start + 4 * k, start + 100 + k)) for k in range(5))
@@ -109,7 +124,7 @@ def spent(n, name):
         best = min(best, after.ru_utime + after.ru_stime - before.ru_utime - before.ru_stime)
     return best, said.strip()
 
-cost = {n: instance(n) for n in (5, 100, 200, 500, 2000)}
+cost = {n: instance(n) for n in (5, 100, 150, 200, 500, 2000)}
 open(f'{out}/none.txt', 'w').write('X\n')
 none = {n: spent(n, 'none')[0] for n in cost}
 failed = False
@@ -136,12 +151,15 @@ for n, depth in (100, 10), (200, 10), (500, 8), (2000, 5):
 row('chain of 1000 leaves', 200, [], chain(pairs(200, 999), leaf(cost[200])), 1000, verified(200))
 cuts = [spell('S', run_of(200, 10)) for _ in range(100)]
 row('256 leaves, 100 cuts', 200, cuts, full(pairs(200, 8), leaf(cost[200], 100)), 256, verified(200))
+cuts = [spell('S', run_of(150, draw.choice((3, 4, 5, 6, 8, 10, 12, 15, 20, 30, 40)))) for _ in range(400)]
+row('as of a search', 150, cuts, grown(pairs(150, 11), lambda: searched(cost[150], 400)), 2048, verified(150))
 row('cuts of 100 cities', 500, [spell('S', run_of(500, 100)) for _ in range(20000)], ['O\n'], 0, 'REFUSED 8')
 row('cuts of 10 cities', 500, [spell('S', run_of(500, 10)) for _ in range(100000)], ['O\n'], 0, 'REFUSED 8')
 row('combs', 500, [comb() for _ in range(30000)], ['O\n'], 0, 'REFUSED 8')
 row('splits by 50 cities', 500, [], [spell('K', run_of(500, 50)) for _ in range(20000)] + ['O\n'], 0, 'REFUSED 8')
 row('splits by one city', 5, [], ['K 1 1\n'] * 200000 + ['O\n'], 0, 'REFUSED 8')
 row('splits by pairs', 500, [], [f'E {u} {v}\n' for u, v in pairs(500, 5000)] + ['O\n'], 0, 'REFUSED 8')
+row('a long chain', 500, [], [f'E {u} {v}\n' for u in range(1, 400) for v in range(u + 1, u + 100)] + ['O\n'], 0, 'REFUSED 8')
 sys.exit(failed)
 PY
 python3 "$work/bench.py" "$program" "$work" "${TIMES:-5}"

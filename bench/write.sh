@@ -22,6 +22,7 @@ use cutpool::NoCuts;
 use cyc::{CitySet, Tour};
 use distx::{Kind, Point};
 use opening::{Opening, find_opening};
+use ports::OpenGate;
 use pricer::{Closing, Fit};
 use std::alloc::Global;
 use std::time::Instant;
@@ -142,7 +143,7 @@ fn searched(rt: &HostRuntime) -> Result<()> {
     let tree = Tree::with_fixed(rt.alloc(), instance.n(), instance.fixed())?;
     let boss = Boss::start(rt.alloc(), &instance, tree, tour, 65536, 1, 0)?;
     let boss = alone(
-        rt.alloc(), boss, &mut NoCuts, &instance, &near, &PlainWorker, 65536, 1, 0,
+        rt.alloc(), boss, &mut NoCuts, &instance, &near, &PlainWorker, &OpenGate, 65536, 1, 0,
     )?;
     let (tour, tree) = boss.snapshot();
     let (bytes, best) = time(rt, &instance, tour, tree)?;

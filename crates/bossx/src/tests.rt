@@ -1,8 +1,6 @@
 //! Worked books: tables of events, each with its reply.
 
 mod acts;
-mod drawn;
-mod plain;
 
 use self::acts::{Act, boss_with, first_other, leased, square_boss};
 use crate::{Asked, Boss, Event, Expiry, Front, Offered, Reply, Reported};

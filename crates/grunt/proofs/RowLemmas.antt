@@ -1,5 +1,5 @@
 -- How many rows a node begins with.
-use Rattle.std.proofs.Common.{◌≡◌, ℕ, zero, suc, ◌+◌, ◌<◌, ◌≤◌, List, [], ◌∷◌, length, Bool, true, Some, None, refl, sym, ap, subst, ◌∙◌, arith}
+use Rattle.std.proofs.Common.{◌≡◌, ℕ, zero, suc, ◌+◌, ◌<◌, ◌≤◌, List, [], ◌∷◌, ◌++◌, length, Bool, true, Some, None, refl, sym, ap, subst, ◌∙◌, arith}
 use Rattle.std.specs.Prelude.{Option}
 use Rattle.std.proofs.lemmas.List.{length-append}
 use Rattle.tspdef.specs.Instances.{Instance}
@@ -79,3 +79,20 @@ grown_ready i path before solved after ready few rounds rows grown =
       rounds = omega (arith, same, rounds, few);
       rows = omega (arith, same, rounds, most, equal, room);
     }
+
+-- a path has no more conditions on sets than conditions
+pub cliques_few : (path : List Condition) → cliques path ≤ length path
+cliques_few [] = omega arith
+cliques_few (fixed u v ∷ path) = let ih = cliques_few path in omega (arith, ih)
+cliques_few (absent u v ∷ path) = let ih = cliques_few path in omega (arith, ih)
+cliques_few (present u v ∷ path) = let ih = cliques_few path in omega (arith, ih)
+cliques_few (two s ∷ path) = let ih = cliques_few path in omega (arith, ih)
+cliques_few (four s ∷ path) = let ih = cliques_few path in omega (arith, ih)
+
+-- so has a short path with a condition more
+pub few_after : (path child : List Condition) (c : Condition) → length path < 1048576 → child ≡ path ++ c ∷ [] → cliques child ≤ 2097152
+few_after path child c few is =
+    let k = cliques_few child in
+    let l = length-append path (c ∷ []) in
+    let e : length child ≡ length (path ++ c ∷ []) = ap length is in
+    omega (arith, k, l, e, few)

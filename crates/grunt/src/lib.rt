@@ -12,6 +12,7 @@ mod efforts;
 mod light;
 mod missed;
 mod offers;
+mod probes;
 mod proposals;
 mod reasons;
 mod rounds;

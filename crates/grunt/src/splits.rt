@@ -11,8 +11,10 @@ ghost use Rattle.grunt.specs.Whys.{IsExplained};
 ghost use Rattle.grunt.specs.Rounds.{IsLook, HasEnded};
 
 use crate::offers::shorter_tour;
+use crate::probes::probed;
 use crate::reasons::reason_of;
 use crate::rounds::Look;
+use crate::starts::Start;
 use branchx::{Branch, Path, choose};
 use cyc::Frac;
 use neigh::Neigh;
@@ -35,6 +37,7 @@ pub(crate) fn settle(
     gap: u64,
     node: NodeLp,
     newest: Look,
+    left: Option<&Start>,
 ) -> Result<Work, AllocError>
     requires cities { path.now.n ≡ instance.now.n }
     requires lists { near.now.n ≡ instance.now.n }
@@ -57,7 +60,8 @@ pub(crate) fn settle(
     match zeros_that_close(alloc, instance, path, wanted)? {
         Some(zeros) => Ok(Work::closed(tour, zeros, newest.bound)),
         None => {
-            let branch = branch_at(alloc, path, node.lp())?;
+            let gap = needed(wanted).saturating_sub(newest.bound);
+            let branch = branch_at(alloc, instance, path, node.lp(), left, gap)?;
             Ok(Work {
                 tour,
                 report: Report::Split(branch),
@@ -80,8 +84,32 @@ fn suffices(look: &Look, length: u64) -> bool
     look.bound > needed(length)
 }
 
-/// By what to split a node where a pair is undecided.
-fn branch_at(alloc: Global, path: &Path, lp: &Lp) -> Result<Branch, AllocError>
+/// By what to split a node where a pair is undecided: by the choice of the values, or by what probes find to be worth more, where the
+/// node leaves something to its children.
+fn branch_at(
+    alloc: Global,
+    instance: &Instance,
+    path: &Path,
+    lp: &Lp,
+    left: Option<&Start>,
+    gap: i128,
+) -> Result<Branch, AllocError>
+    requires instance { path.now.n ≡ instance.now.n }
+    requires cities { lp.now.n ≡ path.now.n }
+    requires clean { IsClean lp.now }
+    requires undecided { ¬ DecidesAll path.now.n path.now.conditions }
+    ensures split { IfOk result (IsSplit path.now.n path.now.conditions) }
+    ensures edge { IfOk result (λ b. path.now.n < 6 → IsEdge (branch_of b)) }
+{
+    let chosen = chosen(alloc, path, lp)?;
+    match left {
+        Some(start) => probed(alloc, instance, path, values(lp), start, gap, chosen),
+        None => Ok(chosen),
+    }
+}
+
+/// The choice of the newest values.
+fn chosen(alloc: Global, path: &Path, lp: &Lp) -> Result<Branch, AllocError>
     requires cities { lp.now.n ≡ path.now.n }
     requires clean { IsClean lp.now }
     requires undecided { ¬ DecidesAll path.now.n path.now.conditions }

@@ -19,6 +19,9 @@ use std::alloc::{AllocError, Global};
 use std::sync::Arc;
 use tspinst::Instance;
 
+#[cfg(test)]
+pub(crate) mod drawn;
+
 /// How many cuts a node begins with at most.
 const MANY: usize = 65_536;
 
@@ -262,7 +265,7 @@ fn begin_near(
 }
 
 /// A node's relaxation with what a parent left.
-fn begin_from(
+pub(crate) fn begin_from(
     alloc: Global,
     instance: &Instance,
     path: &Path,

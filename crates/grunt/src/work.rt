@@ -166,7 +166,18 @@ pub(crate) fn work_from<B: CutBox>(
     let newest = rounds(alloc, instance, shared, path, level(best, gap), &mut node)?;
     let programs = effort_of(&node);
     let left = left_by(alloc, &node, &newest, level(best, gap))?;
-    let mut work = settle(alloc, instance, near, path, best, seed, gap, node, newest)?;
+    let mut work = settle(
+        alloc,
+        instance,
+        near,
+        path,
+        best,
+        seed,
+        gap,
+        node,
+        newest,
+        left.as_ref(),
+    )?;
     work.effort = work.effort.and(programs);
     let left = if_split(&work, left);
     Ok((work, left))

@@ -5,3 +5,4 @@ pub mod SideLemmas
 pub mod FlowLemmas
 pub mod ShrinkLemmas
 pub mod NetworkLemmas
+mod ShrunkGroups

@@ -3,6 +3,7 @@
 //! The text is held whole, and read line by line: at most a title, two lines and a line a city are of a certificate's form.
 ghost use Rattle.std.specs.Prelude.{◌≡◌, ◌↔◌, ℕ, ◌≤◌, [], length, pos, ◌<◌, IfOk, IsErrOf};
 ghost use Rattle.ports.specs.Outside.{BothTell, WhereTold, Cause};
+ghost use Rattle.ports.specs.Desk.{TakesFirst};
 ghost use Rattle.onetree.specs.OneTrees.{AreDuals};
 ghost use Rattle.onetree.specs.Ascents.{zeros};
 ghost use Rattle.onetree.specs.Certificates.{IsAccepted};
@@ -38,6 +39,7 @@ pub fn check<D: Desk>(
     ensures accepted { IfOk result (λ a. WhereTold (λ t. (b : ℕ) → (a ≡ Answer.Yes b) ↔ IsAccepted instance.now t.proof_in b) (D.told desk.old)) }
     ensures shorter { IfOk result (λ a. NoTourIsShorterThan instance.now a) }
     ensures whole { IfOk result (λ a. BothTell (λ t u. u.proof_in ≡ []) (D.told desk.old) (D.told desk.new)) }
+    ensures taken { (k : ℕ) × BothTell (TakesFirst Inlet.Proof k) (D.told desk.old) (D.told desk.new) }
     ensures cause { Cause (IsErrOf result CheckError.Failed) (D.read_faults desk.old) (D.read_faults desk.new) }
     ensures same { D.write_faults desk.new ≡ D.write_faults desk.old }
 {
@@ -54,6 +56,7 @@ fn read_and_judge<D: Desk>(
     ensures judged { IfOk result (λ a. WhereTold (λ t. Judges instance.now t.proof_in a) (D.told desk.old)) }
     ensures shorter { IfOk result (λ a. NoTourIsShorterThan instance.now a) }
     ensures whole { IfOk result (λ a. BothTell (λ t u. u.proof_in ≡ []) (D.told desk.old) (D.told desk.new)) }
+    ensures taken { (k : ℕ) × BothTell (TakesFirst Inlet.Proof k) (D.told desk.old) (D.told desk.new) }
     ensures cause { Cause (IsErrOf result CheckError.Failed) (D.read_faults desk.old) (D.read_faults desk.new) }
     ensures same { D.write_faults desk.new ≡ D.write_faults desk.old }
 {

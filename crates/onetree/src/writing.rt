@@ -3,7 +3,7 @@ ghost use Rattle.std.specs.Prelude.{◌≡◌, ℤ, neg_ℤ, pos, ◌<ℤ◌, If
 ghost use Rattle.ports.specs.Outside.{Cause};
 ghost use Rattle.tspdef.specs.Bounds.{scale};
 ghost use Rattle.onetree.specs.OneTrees.{AreDuals, IsHeldKarp};
-ghost use Rattle.onetree.specs.Certificates.{text, certificate_of};
+ghost use Rattle.onetree.specs.Certificates.{text, certificate_of, IsBoundOf};
 ghost use Rattle.onetree.specs.Told.{AddsCertificate, AddsFront};
 
 use crate::error::WriteError;
@@ -34,10 +34,24 @@ pub fn write<D: Desk>(
     ensures cause { Cause (IsErrOf result WriteError.Failed) (D.write_faults desk.old) (D.write_faults desk.new) }
     ensures same { D.read_faults desk.new ≡ D.read_faults desk.old }
 {
-    let bound = proved_length(held_karp(alloc, instance, duals)?);
+    let bound = bound_of(alloc, instance, duals)?;
     let bytes = certificate(alloc, duals, bound)?;
     write_all(desk, Outlet::Proof, &bytes)?;
     Ok(bound)
+}
+
+/// The greatest bound that some duals prove. It takes O(n^2).
+///
+/// # Errors
+///
+/// Where memory ran out.
+pub fn bound_of(alloc: Global, instance: &Instance, duals: &[i64]) -> Result<u64, AllocError>
+    requires duals { AreDuals instance.now.n duals.now }
+    requires some { (h : ℤ) → IsHeldKarp instance.now duals.now h → neg_ℤ (pos scale) <ℤ h }
+    ensures { IfOk result (λ b. IsBoundOf instance.now duals.now b) }
+{
+    let value = held_karp(alloc, instance, duals)?;
+    Ok(proved_length(value))
 }
 
 /// The bytes of the certificate of some duals with a bound.

@@ -1,12 +1,13 @@
 -- From how a command ends to how a call of `run` ends.
-use Rattle.std.proofs.Common.{◌≡◌, ℕ, ◌<◌, List, [], ◌∷◌, refl, sym, subst, ◌∙◌, ◌⊎◌, inl, inr, Option, arith}
-use Rattle.std.specs.Prelude.{codes}
+use Rattle.std.proofs.Common.{◌≡◌, ℕ, ◌<◌, List, [], ◌∷◌, refl, sym, ap, subst, ◌∙◌, ◌⊎◌, inl, inr, Option, arith}
+use Rattle.std.specs.Prelude.{codes, true, false}
+use Rattle.std.specs.Str.{bytes_eq}
 use Rattle.clap.specs.Walk.{Text}
 use Rattle.clap.specs.Faults.{fault_of}
 use Rattle.ports.specs.Outside.{BothTell, Cause}
 use Rattle.ports.specs.Desk.{Told}
 use Rattle.tspwords.specs.Laws.{TakenWordsAreGiven}
-use Rattle.tspwords.specs.Program.{program, IsTaken, IsSolveCall, IsVerifyCall, IsTourCall, IsBenchCall, instance_word}
+use Rattle.tspwords.specs.Program.{program, IsTaken, IsCallOf, IsSolveCall, IsVerifyCall, IsTourCall, IsBenchCall, IsReplayCall, IsBoundCall, IsCheckboundCall, instance_word}
 use Rattle.verification.specs.Transfers.{TouchesInstance}
 use Rattle.verification.specs.Runs.{IsSilent}
 use Rattle.verification.proofs.Tells.{both_same}
@@ -15,7 +16,9 @@ use Rattle.tspengine.specs.Solving.{Solves}
 use Rattle.tspengine.specs.Verifying.{paths_of, Verifies}
 use Rattle.tspengine.specs.Touring.{Tours}
 use Rattle.tspengine.specs.Benching.{Benches}
-use Rattle.tspengine.specs.Usages.{IsUnserved, Uses}
+use Rattle.tspengine.specs.Bounding.{Bounds, ChecksBound, paths_of_bound}
+use Rattle.tspengine.specs.Replaying.{Replays}
+use Rattle.tspengine.specs.Usages.{Uses}
 use Rattle.tspengine.specs.Runs.{Ends, HasCauses}
 use Rattle.tspengine.specs.declared.statuses.Status.{Status}
 use Rattle.tspengine.specs.declared.statuses.Status.TheVariants as status
@@ -64,77 +67,9 @@ verify_or_bench words a b = verify_not_bench (sym a.named ∙ b.named)
 tour_or_bench : (words : List Text) → IsTourCall words → IsBenchCall words → ⊥
 tour_or_bench words a b = tour_not_bench (sym a.named ∙ b.named)
 
--- words of a command that is served are no others
-rest_of : (m : ℕ) (xs ys : List ℕ) → m ∷ xs ≡ m ∷ ys → xs ≡ ys
-rest_of m xs ys e = cc
-
-solve_not_replay : codes "solve" ≡ codes "replay" → ⊥
-solve_not_replay e = apart 115 114 (codes "olve") (codes "eplay") (inr (omega arith)) e
-
-solve_not_bound : codes "solve" ≡ codes "bound" → ⊥
-solve_not_bound e = apart 115 98 (codes "olve") (codes "ound") (inr (omega arith)) e
-
-solve_not_checkbound : codes "solve" ≡ codes "checkbound" → ⊥
-solve_not_checkbound e = apart 115 99 (codes "olve") (codes "heckbound") (inr (omega arith)) e
-
-verify_not_replay : codes "verify" ≡ codes "replay" → ⊥
-verify_not_replay e = apart 118 114 (codes "erify") (codes "eplay") (inr (omega arith)) e
-
-verify_not_bound : codes "verify" ≡ codes "bound" → ⊥
-verify_not_bound e = apart 118 98 (codes "erify") (codes "ound") (inr (omega arith)) e
-
-verify_not_checkbound : codes "verify" ≡ codes "checkbound" → ⊥
-verify_not_checkbound e = apart 118 99 (codes "erify") (codes "heckbound") (inr (omega arith)) e
-
-tour_not_replay : codes "tour" ≡ codes "replay" → ⊥
-tour_not_replay e = apart 116 114 (codes "our") (codes "eplay") (inr (omega arith)) e
-
-tour_not_bound : codes "tour" ≡ codes "bound" → ⊥
-tour_not_bound e = apart 116 98 (codes "our") (codes "ound") (inr (omega arith)) e
-
-tour_not_checkbound : codes "tour" ≡ codes "checkbound" → ⊥
-tour_not_checkbound e = apart 116 99 (codes "our") (codes "heckbound") (inr (omega arith)) e
-
-bench_not_replay : codes "bench" ≡ codes "replay" → ⊥
-bench_not_replay e = apart 98 114 (codes "ench") (codes "eplay") (inl (omega arith)) e
-
-bench_not_bound : codes "bench" ≡ codes "bound" → ⊥
-bench_not_bound e = apart 101 111 (codes "nch") (codes "und") (inl (omega arith)) (rest_of 98 (codes "ench") (codes "ound") e)
-
-bench_not_checkbound : codes "bench" ≡ codes "checkbound" → ⊥
-bench_not_checkbound e = apart 98 99 (codes "ench") (codes "heckbound") (inl (omega arith)) e
-
-solve_is_served : (words : List Text) → IsSolveCall words → IsUnserved words → ⊥
-solve_is_served words a u = elim u [
-  | inl b ↦ solve_not_replay (sym a.named ∙ b.named)
-  | inr (inl b) ↦ solve_not_bound (sym a.named ∙ b.named)
-  | inr (inr (inl b)) ↦ solve_not_checkbound (sym a.named ∙ b.named)
-  | inr (inr (inr none)) ↦ none a.taken
-]
-
-verify_is_served : (words : List Text) → IsVerifyCall words → IsUnserved words → ⊥
-verify_is_served words a u = elim u [
-  | inl b ↦ verify_not_replay (sym a.named ∙ b.named)
-  | inr (inl b) ↦ verify_not_bound (sym a.named ∙ b.named)
-  | inr (inr (inl b)) ↦ verify_not_checkbound (sym a.named ∙ b.named)
-  | inr (inr (inr none)) ↦ none a.taken
-]
-
-tour_is_served : (words : List Text) → IsTourCall words → IsUnserved words → ⊥
-tour_is_served words a u = elim u [
-  | inl b ↦ tour_not_replay (sym a.named ∙ b.named)
-  | inr (inl b) ↦ tour_not_bound (sym a.named ∙ b.named)
-  | inr (inr (inl b)) ↦ tour_not_checkbound (sym a.named ∙ b.named)
-  | inr (inr (inr none)) ↦ none a.taken
-]
-
-bench_is_served : (words : List Text) → IsBenchCall words → IsUnserved words → ⊥
-bench_is_served words a u = elim u [
-  | inl b ↦ bench_not_replay (sym a.named ∙ b.named)
-  | inr (inl b) ↦ bench_not_bound (sym a.named ∙ b.named)
-  | inr (inr (inl b)) ↦ bench_not_checkbound (sym a.named ∙ b.named)
-  | inr (inr (inr none)) ↦ none a.taken
-]
+-- words that name one command name no other
+other_call : (words : List Text) → (a b : Text) → bytes_eq a a ≡ true → bytes_eq a b ≡ false → IsCallOf a words → IsCallOf b words → ⊥
+other_call words a b same differ x y = let e : a ≡ b = sym x.named ∙ y.named in let f : true ≡ false = sym same ∙ ap (bytes_eq a) e ∙ differ in cc
 
 pub ends_solve : (s : Status) (c : Call) → IsSolveCall c.words → Solves s c → Ends s c
 ends_solve s c call ends = record {
@@ -143,7 +78,10 @@ ends_solve s c call ends = record {
   verify = λ other. absurd (solve_or_verify c.words call other);
   tour = λ other. absurd (solve_or_tour c.words call other);
   bench = λ other. absurd (solve_or_bench c.words call other);
-  usage = λ other. absurd (solve_is_served c.words call other);
+  replay = λ other. absurd (other_call c.words (codes "solve") (codes "replay") refl refl call other);
+  bound = λ other. absurd (other_call c.words (codes "solve") (codes "bound") refl refl call other);
+  checkbound = λ other. absurd (other_call c.words (codes "solve") (codes "checkbound") refl refl call other);
+  usage = λ none. absurd (none call.taken);
 }
 
 pub ends_verify : (s : Status) (c : Call) → IsVerifyCall c.words → Verifies s c → Ends s c
@@ -153,7 +91,10 @@ ends_verify s c call ends = record {
   verify = λ _. ends;
   tour = λ other. absurd (verify_or_tour c.words call other);
   bench = λ other. absurd (verify_or_bench c.words call other);
-  usage = λ other. absurd (verify_is_served c.words call other);
+  replay = λ other. absurd (other_call c.words (codes "verify") (codes "replay") refl refl call other);
+  bound = λ other. absurd (other_call c.words (codes "verify") (codes "bound") refl refl call other);
+  checkbound = λ other. absurd (other_call c.words (codes "verify") (codes "checkbound") refl refl call other);
+  usage = λ none. absurd (none call.taken);
 }
 
 pub ends_tour : (s : Status) (c : Call) → IsTourCall c.words → Tours s c → Ends s c
@@ -163,7 +104,10 @@ ends_tour s c call ends = record {
   verify = λ other. absurd (verify_or_tour c.words other call);
   tour = λ _. ends;
   bench = λ other. absurd (tour_or_bench c.words call other);
-  usage = λ other. absurd (tour_is_served c.words call other);
+  replay = λ other. absurd (other_call c.words (codes "tour") (codes "replay") refl refl call other);
+  bound = λ other. absurd (other_call c.words (codes "tour") (codes "bound") refl refl call other);
+  checkbound = λ other. absurd (other_call c.words (codes "tour") (codes "checkbound") refl refl call other);
+  usage = λ none. absurd (none call.taken);
 }
 
 pub ends_bench : (s : Status) (c : Call) → IsBenchCall c.words → Benches s c → Ends s c
@@ -173,16 +117,61 @@ ends_bench s c call ends = record {
   verify = λ other. absurd (verify_or_bench c.words other call);
   tour = λ other. absurd (tour_or_bench c.words other call);
   bench = λ _. ends;
-  usage = λ other. absurd (bench_is_served c.words call other);
+  replay = λ other. absurd (other_call c.words (codes "bench") (codes "replay") refl refl call other);
+  bound = λ other. absurd (other_call c.words (codes "bench") (codes "bound") refl refl call other);
+  checkbound = λ other. absurd (other_call c.words (codes "bench") (codes "checkbound") refl refl call other);
+  usage = λ none. absurd (none call.taken);
 }
 
-pub ends_usage : (s : Status) (c : Call) → IsUnserved c.words → Uses s c → Ends s c
+pub ends_replay : (s : Status) (c : Call) → IsReplayCall c.words → Replays s c → Ends s c
+ends_replay s c call ends = record {
+  words = inr (inr (inr (inr (inl call))));
+  solve = λ other. absurd (other_call c.words (codes "replay") (codes "solve") refl refl call other);
+  verify = λ other. absurd (other_call c.words (codes "replay") (codes "verify") refl refl call other);
+  tour = λ other. absurd (other_call c.words (codes "replay") (codes "tour") refl refl call other);
+  bench = λ other. absurd (other_call c.words (codes "replay") (codes "bench") refl refl call other);
+  replay = λ _. ends;
+  bound = λ other. absurd (other_call c.words (codes "replay") (codes "bound") refl refl call other);
+  checkbound = λ other. absurd (other_call c.words (codes "replay") (codes "checkbound") refl refl call other);
+  usage = λ none. absurd (none call.taken);
+}
+
+pub ends_bound : (s : Status) (c : Call) → IsBoundCall c.words → Bounds s c → Ends s c
+ends_bound s c call ends = record {
+  words = inr (inr (inr (inr (inr (inl call)))));
+  solve = λ other. absurd (other_call c.words (codes "bound") (codes "solve") refl refl call other);
+  verify = λ other. absurd (other_call c.words (codes "bound") (codes "verify") refl refl call other);
+  tour = λ other. absurd (other_call c.words (codes "bound") (codes "tour") refl refl call other);
+  bench = λ other. absurd (other_call c.words (codes "bound") (codes "bench") refl refl call other);
+  replay = λ other. absurd (other_call c.words (codes "bound") (codes "replay") refl refl call other);
+  bound = λ _. ends;
+  checkbound = λ other. absurd (other_call c.words (codes "bound") (codes "checkbound") refl refl call other);
+  usage = λ none. absurd (none call.taken);
+}
+
+pub ends_checkbound : (s : Status) (c : Call) → IsCheckboundCall c.words → ChecksBound s c → Ends s c
+ends_checkbound s c call ends = record {
+  words = inr (inr (inr (inr (inr (inr (inl call))))));
+  solve = λ other. absurd (other_call c.words (codes "checkbound") (codes "solve") refl refl call other);
+  verify = λ other. absurd (other_call c.words (codes "checkbound") (codes "verify") refl refl call other);
+  tour = λ other. absurd (other_call c.words (codes "checkbound") (codes "tour") refl refl call other);
+  bench = λ other. absurd (other_call c.words (codes "checkbound") (codes "bench") refl refl call other);
+  replay = λ other. absurd (other_call c.words (codes "checkbound") (codes "replay") refl refl call other);
+  bound = λ other. absurd (other_call c.words (codes "checkbound") (codes "bound") refl refl call other);
+  checkbound = λ _. ends;
+  usage = λ none. absurd (none call.taken);
+}
+
+pub ends_usage : (s : Status) (c : Call) → ¬ IsTaken c.words → Uses s c → Ends s c
 ends_usage s c none ends = record {
-  words = inr (inr (inr (inr none)));
-  solve = λ call. absurd (solve_is_served c.words call none);
-  verify = λ call. absurd (verify_is_served c.words call none);
-  tour = λ call. absurd (tour_is_served c.words call none);
-  bench = λ call. absurd (bench_is_served c.words call none);
+  words = inr (inr (inr (inr (inr (inr (inr none))))));
+  solve = λ call. absurd (none call.taken);
+  verify = λ call. absurd (none call.taken);
+  tour = λ call. absurd (none call.taken);
+  bench = λ call. absurd (none call.taken);
+  replay = λ call. absurd (none call.taken);
+  bound = λ call. absurd (none call.taken);
+  checkbound = λ call. absurd (none call.taken);
   usage = λ _. ends;
 }
 
@@ -192,7 +181,7 @@ empty_or_not : {A : Type 0} (xs : List A) → (xs ≡ []) ⊎ ¬ (xs ≡ [])
 empty_or_not [] = inl refl
 empty_or_not (x ∷ xs) = inr (λ (e : (x ∷ xs) ≡ []). cc)
 
-which_call : (words : List Text) → TakenWordsAreGiven → IsTaken words → IsSolveCall words ⊎ IsVerifyCall words ⊎ IsTourCall words ⊎ IsBenchCall words ⊎ IsUnserved words
+which_call : (words : List Text) → TakenWordsAreGiven → IsTaken words → IsSolveCall words ⊎ IsVerifyCall words ⊎ IsTourCall words ⊎ IsBenchCall words ⊎ IsReplayCall words ⊎ IsBoundCall words ⊎ IsCheckboundCall words ⊎ ¬ IsTaken words
 which_call words given taken = elim (given words taken) [
   | inl x ↦ inl x.named
   | inr (inl x) ↦ inr (inl x.named)
@@ -203,7 +192,7 @@ which_call words given taken = elim (given words taken) [
   | inr (inr (inr (inr (inr (inr x))))) ↦ inr (inr (inr (inr (inr (inr (inl x.named))))))
 ]
 
-pub which_words : (words : List Text) → TakenWordsAreGiven → IsSolveCall words ⊎ IsVerifyCall words ⊎ IsTourCall words ⊎ IsBenchCall words ⊎ IsUnserved words
+pub which_words : (words : List Text) → TakenWordsAreGiven → IsSolveCall words ⊎ IsVerifyCall words ⊎ IsTourCall words ⊎ IsBenchCall words ⊎ IsReplayCall words ⊎ IsBoundCall words ⊎ IsCheckboundCall words ⊎ ¬ IsTaken words
 which_words words given = elim (empty_or_not (fault_of program words)) [
   | inl taken ↦ which_call words given taken
   | inr none ↦ inr (inr (inr (inr (inr (inr (inr none))))))
@@ -234,6 +223,35 @@ bench_reads s c ends f = elim ends [
   | inr (inl (e, x, l)) ↦ let g : status.BenchStopped ≡ status.ReadFault = sym e ∙ f in cc
   | inr (inr (inl (e, x))) ↦ let g : status.WriteFault ≡ status.ReadFault = sym e ∙ f in cc
   | inr (inr (inr (e, x))) ↦ let g : status.NoMemory ≡ status.ReadFault = sym e ∙ f in cc
+]
+
+bound_stores : (s : Status) (c : Call) → Bounds s c → s ≡ status.StoreFault → ⊥
+bound_stores s c ends f = elim ends [
+  | inl (e, x) ↦ let g : status.Bounded ≡ status.StoreFault = sym e ∙ f in cc
+  | inr (inl (e, x)) ↦ let g : status.BadInstance ≡ status.StoreFault = sym e ∙ f in cc
+  | inr (inr (inl (e, x))) ↦ let g : status.ReadFault ≡ status.StoreFault = sym e ∙ f in cc
+  | inr (inr (inr (inl (e, x)))) ↦ let g : status.WriteFault ≡ status.StoreFault = sym e ∙ f in cc
+  | inr (inr (inr (inr (e, x)))) ↦ let g : status.NoMemory ≡ status.StoreFault = sym e ∙ f in cc
+]
+
+checkbound_stores : (s : Status) (c : Call) → ChecksBound s c → s ≡ status.StoreFault → ⊥
+checkbound_stores s c ends f = elim ends [
+  | inl (e, x) ↦ let g : status.Checked ≡ status.StoreFault = sym e ∙ f in cc
+  | inr (inl (e, x)) ↦ let g : status.BoundRefused ≡ status.StoreFault = sym e ∙ f in cc
+  | inr (inr (inl (e, x))) ↦ let g : status.BadInstance ≡ status.StoreFault = sym e ∙ f in cc
+  | inr (inr (inr (inl (e, x)))) ↦ let g : status.ReadFault ≡ status.StoreFault = sym e ∙ f in cc
+  | inr (inr (inr (inr (inl (e, x))))) ↦ let g : status.WriteFault ≡ status.StoreFault = sym e ∙ f in cc
+  | inr (inr (inr (inr (inr (e, x))))) ↦ let g : status.NoMemory ≡ status.StoreFault = sym e ∙ f in cc
+]
+
+replay_stores : (s : Status) (c : Call) → Replays s c → s ≡ status.StoreFault → ⊥
+replay_stores s c ends f = elim ends [
+  | inl (e, x) ↦ let g : status.Replayed ≡ status.StoreFault = sym e ∙ f in cc
+  | inr (inl (e, x)) ↦ let g : status.BadTape ≡ status.StoreFault = sym e ∙ f in cc
+  | inr (inr (inl (e, x))) ↦ let g : status.BadInstance ≡ status.StoreFault = sym e ∙ f in cc
+  | inr (inr (inr (inl (e, x)))) ↦ let g : status.ReadFault ≡ status.StoreFault = sym e ∙ f in cc
+  | inr (inr (inr (inr (inl (e, x))))) ↦ let g : status.WriteFault ≡ status.StoreFault = sym e ∙ f in cc
+  | inr (inr (inr (inr (inr (e, x))))) ↦ let g : status.NoMemory ≡ status.StoreFault = sym e ∙ f in cc
 ]
 
 usage_stores : (s : Status) (c : Call) → Uses s c → s ≡ status.StoreFault → ⊥
@@ -298,6 +316,33 @@ causes_bench s c ends same unread writes = record {
   other_stores = λ _. same;
 }
 
+pub causes_bound : (s : Status) (c : Call) → Bounds s c → c.after.store_faults ≡ c.before.store_faults
+    → Cause (s ≡ status.ReadFault) c.before.read_faults c.after.read_faults → Cause (s ≡ status.WriteFault) c.before.write_faults c.after.write_faults → HasCauses s c
+causes_bound s c ends same reads writes = record {
+  reads = reads;
+  writes = writes;
+  store = quiet (s ≡ status.StoreFault) c.before.store_faults c.after.store_faults same (bound_stores s c ends);
+  other_stores = λ _. same;
+}
+
+pub causes_checkbound : (s : Status) (c : Call) → ChecksBound s c → c.after.store_faults ≡ c.before.store_faults
+    → Cause (s ≡ status.ReadFault) c.before.read_faults c.after.read_faults → Cause (s ≡ status.WriteFault) c.before.write_faults c.after.write_faults → HasCauses s c
+causes_checkbound s c ends same reads writes = record {
+  reads = reads;
+  writes = writes;
+  store = quiet (s ≡ status.StoreFault) c.before.store_faults c.after.store_faults same (checkbound_stores s c ends);
+  other_stores = λ _. same;
+}
+
+pub causes_replay : (s : Status) (c : Call) → Replays s c → c.after.store_faults ≡ c.before.store_faults
+    → Cause (s ≡ status.ReadFault) c.before.read_faults c.after.read_faults → Cause (s ≡ status.WriteFault) c.before.write_faults c.after.write_faults → HasCauses s c
+causes_replay s c ends same reads writes = record {
+  reads = reads;
+  writes = writes;
+  store = quiet (s ≡ status.StoreFault) c.before.store_faults c.after.store_faults same (replay_stores s c ends);
+  other_stores = λ _. same;
+}
+
 pub causes_usage : (s : Status) (c : Call) → Uses s c → c.after.store_faults ≡ c.before.store_faults → c.after.read_faults ≡ c.before.read_faults
     → Cause (s ≡ status.WriteFault) c.before.write_faults c.after.write_faults → HasCauses s c
 causes_usage s c ends same unread writes = record {
@@ -341,5 +386,14 @@ ends_idle c given idle = elim (which_words c.words given) [
   | inr (inl call) ↦ ends_verify status.NoMemory c call (verify_idle c idle)
   | inr (inr (inl call)) ↦ ends_tour status.NoMemory c call (inr (inr (inr (inr (refl, record { desk = untouched c idle; slots = idle.slots })))))
   | inr (inr (inr (inl call))) ↦ ends_bench status.NoMemory c call (inr (inr (inr (refl, record { desk = idle.desk; slots = idle.slots }))))
-  | inr (inr (inr (inr none))) ↦ ends_usage status.NoMemory c none (inr (inr (refl, record { desk = idle.desk; slots = idle.slots })))
+  | inr (inr (inr (inr (inl call)))) ↦ ends_replay status.NoMemory c call (inr (inr (inr (inr (inr (refl, inl (record { desk = untouched c idle; slots = idle.slots })))))))
+  | inr (inr (inr (inr (inr (inl call))))) ↦ ends_bound status.NoMemory c call (inr (inr (inr (inr (refl, inl (record { desk = untouched c idle; slots = idle.slots }))))))
+  | inr (inr (inr (inr (inr (inr (inl call)))))) ↦ ends_checkbound status.NoMemory c call (inr (inr (inr (inr (inr (
+    refl,
+    record {
+      desk = both_same (IsSilent (paths_of_bound c.words)) (λ (t : Told). inl refl) c.before.desk c.after.desk idle.desk;
+      slots = idle.slots;
+    },
+  ))))))
+  | inr (inr (inr (inr (inr (inr (inr none)))))) ↦ ends_usage status.NoMemory c none (inr (inr (refl, record { desk = idle.desk; slots = idle.slots })))
 ]

@@ -11,7 +11,7 @@ use Rattle.ports.specs.Slots.{SlotsTold}
 use Rattle.slotstore.specs.Store.{loaded}
 use Rattle.tspdef.specs.Trees.{Tree}
 use Rattle.resume_form.specs.Resumed.{IsResumed, IsRefused, OneReading}
-use Rattle.tspwords.specs.Program.{instance_word, budget_of, gap_of, resumes}
+use Rattle.tspwords.specs.Program.{instance_word, budget_of, gap_of, resumes, grunts_of}
 use Rattle.verification.specs.Headline.{Verified, Within, BadInstance, Refused}
 use Rattle.verification.specs.Paths.{Paths}
 use Rattle.verification.specs.Counts.{IsCalm, IsTold}
@@ -21,6 +21,10 @@ use Rattle.tspengine.specs.Solving.{BadRestart, IsRefusedLoad, MayBegin, SolveCo
 use Rattle.tspengine.specs.Verifying.{paths_of, VerifyCompletes, AcceptedCompletes}
 use Rattle.tspengine.specs.Touring.{TourCompletes}
 use Rattle.tspengine.specs.Benching.{BenchCompletes, SmallBenchCompletes}
+use Rattle.onetree.specs.Certificates.{IsAccepted}
+use Rattle.tspengine.specs.Bounding.{BoundCompletes, CheckboundCompletes, AcceptedBoundCompletes}
+use Rattle.tspengine.specs.Replaying.{ReplayCompletes}
+use Rattle.tspengine.proofs.Tapes.{told_instance, told_good}
 use Rattle.tspengine.specs.Runs.{Ends, HasCauses, Runs}
 use Rattle.tspengine.specs.declared.statuses.Status.{Status}
 use Rattle.tspengine.specs.declared.statuses.Status.TheVariants as status
@@ -182,6 +186,62 @@ accepted_completes s c ends causes = λ i l m call told calm. elim (ends.verify 
   | inr (inr (inr (inr (inr (inr (e, x)))))) ↦ inr e
 ]
 
+-- ---- bounds
+
+bound_completes : (s : Status) (c : Call) → Ends s c → HasCauses s c → BoundCompletes s c
+bound_completes s c ends causes = λ i call told calm. elim (ends.bound call) [
+  | inl (e, x) ↦ inl e
+  | inr (inl (e, x)) ↦ absurd (not_bad (instance_word c.words) i c.before.desk c.after.desk told x.desk)
+  | inr (inr (inl (e, x))) ↦ absurd (no_fault (s ≡ status.ReadFault) _ _ causes.reads calm.reads e)
+  | inr (inr (inr (inl (e, x)))) ↦ absurd (no_fault (s ≡ status.WriteFault) _ _ causes.writes calm.writes e)
+  | inr (inr (inr (inr (e, x)))) ↦ inr e
+]
+
+checkbound_completes : (s : Status) (c : Call) → Ends s c → HasCauses s c → CheckboundCompletes s c
+checkbound_completes s c ends causes = λ i call told calm. elim (ends.checkbound call) [
+  | inl (e, x) ↦ inl e
+  | inr (inl (e, x)) ↦ inr (inl e)
+  | inr (inr (inl (e, x))) ↦ absurd (not_bad (instance_word c.words) i c.before.desk c.after.desk told x.desk)
+  | inr (inr (inr (inl (e, x)))) ↦ absurd (no_fault (s ≡ status.ReadFault) _ _ causes.reads calm.reads e)
+  | inr (inr (inr (inr (inl (e, x))))) ↦ absurd (no_fault (s ≡ status.WriteFault) _ _ causes.writes calm.writes e)
+  | inr (inr (inr (inr (inr (e, x))))) ↦ inr (inr e)
+]
+
+abbrev BoundAs : Instance → ℕ → Told → Type 0
+BoundAs i b t = InstanceText t.instance i × IsAccepted i t.proof_in b
+
+bound_instance : (i : Instance) (b : ℕ) (a : Option Told) → IsTold (BoundAs i b) a → IsTold (λ t. InstanceText t.instance i) a
+bound_instance i b None told = told
+bound_instance i b (Some t) told = told.0
+
+-- an accepted certificate is not refused
+not_refused_bound : (i j : Instance) (b : ℕ) (a : Option Told) → IsTold (BoundAs i b) a → WhereTold (λ t. InstanceText t.instance j) a
+    → WhereTold (λ t. (bound : ℕ) → ¬ IsAccepted j t.proof_in bound) a → ⊥
+not_refused_bound i j b None told read never = told
+not_refused_bound i j b (Some t) told read never = never b (subst (λ (x : Instance). IsAccepted x t.proof_in b) (one_instance t.instance i j told.0 read) told.1)
+
+accepted_bound_completes : (s : Status) (c : Call) → Ends s c → HasCauses s c → AcceptedBoundCompletes s c
+accepted_bound_completes s c ends causes = λ i b call told calm. elim (ends.checkbound call) [
+  | inl (e, x) ↦ inl e
+  | inr (inl (e, x)) ↦ absurd (not_refused_bound i x.instance b c.before.desk told x.bytes_read x.accepted_with_no_bound)
+  | inr (inr (inl (e, x))) ↦ absurd (not_bad (instance_word c.words) i c.before.desk c.after.desk (bound_instance i b c.before.desk told) x.desk)
+  | inr (inr (inr (inl (e, x)))) ↦ absurd (no_fault (s ≡ status.ReadFault) _ _ causes.reads calm.reads e)
+  | inr (inr (inr (inr (inl (e, x))))) ↦ absurd (no_fault (s ≡ status.WriteFault) _ _ causes.writes calm.writes e)
+  | inr (inr (inr (inr (inr (e, x))))) ↦ inr e
+]
+
+-- ---- tapes
+
+replay_completes : (s : Status) (c : Call) → Ends s c → HasCauses s c → ReplayCompletes s c
+replay_completes s c ends causes = λ i call told calm. elim (ends.replay call) [
+  | inl (e, x) ↦ inl e
+  | inr (inl (e, x)) ↦ absurd (told_good i c x told)
+  | inr (inr (inl (e, x))) ↦ absurd (not_bad (instance_word c.words) i c.before.desk c.after.desk (told_instance i (grunts_of c.words) c.before.desk told) x.desk)
+  | inr (inr (inr (inl (e, x)))) ↦ absurd (no_fault (s ≡ status.ReadFault) _ _ causes.reads calm.reads e)
+  | inr (inr (inr (inr (inl (e, x))))) ↦ absurd (no_fault (s ≡ status.WriteFault) _ _ causes.writes calm.writes e)
+  | inr (inr (inr (inr (inr (e, x))))) ↦ inr e
+]
+
 -- a call of `run` that ends so, and by these causes
 pub runs_so : OneReading → (s : Status) (c : Call) → Ends s c → HasCauses s c → Runs s c
 runs_so reading s c ends causes = record {
@@ -195,5 +255,9 @@ runs_so reading s c ends causes = record {
     tour = tour_completes s c ends causes;
     bench = bench_completes s c ends causes;
     small_bench = small_bench_completes s c ends causes;
+    replay = replay_completes s c ends causes;
+    bound = bound_completes s c ends causes;
+    checkbound = checkbound_completes s c ends causes;
+    accepted_bound = accepted_bound_completes s c ends causes;
   };
 }

@@ -9,5 +9,10 @@ mod Joining
 mod Tours
 mod Benches
 mod Verifies
+mod Bounds
+mod Checkbounds
+mod Plays
+mod Replays
+mod Tapes
 mod Commands
 mod Completions

@@ -15,6 +15,10 @@ pub mod Solving
 pub mod Touring
 pub mod Benching
 pub mod Verifying
+pub mod Bounds
+pub mod Bounding
+pub mod Playing
+pub mod Replaying
 pub mod Usages
 pub mod Runs
 pub mod Statuses

@@ -34,4 +34,4 @@ abbrev pub stopped_text : ℕ → ℕ → List ℕ
 stopped_text best open_nodes = codes "STOPPED " ++ decimal best ++ codes " " ++ decimal open_nodes ++ codes "\n"
 
 abbrev pub usage_text : List ℕ
-usage_text = codes "USAGE tspc solve/verify/tour/bench\n"
+usage_text = codes "USAGE tspc solve/verify/tour/bench/replay/bound/checkbound\n"

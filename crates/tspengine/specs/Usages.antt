@@ -1,16 +1,10 @@
--- How a call ends whose words are of no command's form, or of a command that is not served yet.
-use Rattle.std.specs.Prelude.{◌≡◌, ℕ, ◌⊎◌, List, take}
-use Rattle.clap.specs.Walk.{Text}
-use Rattle.tspwords.specs.Program.{IsTaken, IsReplayCall, IsBoundCall, IsCheckboundCall}
+-- How a call ends whose words are of no command's form.
+use Rattle.std.specs.Prelude.{◌≡◌, ℕ, ◌⊎◌, take}
 use Rattle.tspengine.specs.Calls.{Call, DeskIs, SlotsKept}
 use Rattle.tspengine.specs.Steps.{prints}
 use Rattle.tspengine.specs.Texts.{usage_text}
 use Rattle.tspengine.specs.declared.statuses.Status.{Status}
 use Rattle.tspengine.specs.declared.statuses.Status.TheVariants as status
-
--- The words are of no command's form; or of a command that the parser knows and that is not served yet.
-abbrev pub IsUnserved : List Text → Type 0
-IsUnserved words = IsReplayCall words ⊎ IsBoundCall words ⊎ IsCheckboundCall words ⊎ ¬ IsTaken words
 
 -- Usage: the usage is printed.
 pub record Usage (c : Call) : Type 0 where

@@ -14,7 +14,7 @@ use crate::statuses::Status;
 use bossx::Boss;
 use cutpool::CutPool;
 use grunt::LpWorker;
-use ports::Desk;
+use ports::{Desk, OpenGate};
 use std::alloc::{AllocError, Global};
 use tspgen::make;
 use tspinst::Instance;
@@ -58,8 +58,9 @@ fn found(alloc: Global, instance: &Instance, budget: u32, seed: u64) -> Result<B
     few_cities_end();
     let Search { boss, near } = anew(alloc, instance, budget, 1, seed, 0)?;
     let mut pool = CutPool::new(alloc, instance.n());
+    let worker = LpWorker::new(alloc);
     let boss = alone(
-        alloc, boss, &mut pool, instance, &near, &LpWorker, budget, seed, 0,
+        alloc, boss, &mut pool, instance, &near, &worker, &OpenGate, budget, seed, 0,
     )?;
     let _book = boss.snapshot();
     Ok(boss)

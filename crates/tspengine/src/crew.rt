@@ -3,6 +3,7 @@ ghost use Rattle.std.specs.Prelude.{◌≡◌};
 ghost use Rattle.ports.specs.Posts.{plain_fate, IsWorseOf};
 
 use cutpool::SharedPool;
+use grunt::LpWorker;
 use neigh::Neigh;
 use ports::{Fate, PlainPosts, Posts};
 use std::alloc::Global;
@@ -35,11 +36,13 @@ impl<'a, P: Posts> Posts for BothPosts<'a, P> {
     }
 }
 
-/// What all work of a search shares: the instance, its near lists, the cuts that were found, and the seed.
+/// What all work of a search shares: the instance, its near lists, the cuts that were found, the worker with what it keeps for the
+/// children of split nodes, and the seed.
 #[derive(Drop)]
 pub(crate) struct Field {
     pub(crate) instance: Arc<Instance, Global>,
     pub(crate) near: Neigh,
     pub(crate) pool: SharedPool,
+    pub(crate) worker: LpWorker,
     pub(crate) seed: u64,
 }

@@ -3,7 +3,10 @@ ghost use Rattle.std.specs.Prelude.{map, string_bytes};
 ghost use Rattle.tspengine.specs.Runs.{Runs};
 
 use crate::benching::bench;
+use crate::bounding::bound;
+use crate::checkbounding::checkbound;
 use crate::crew::{BothPosts, Crew};
+use crate::replaying::replay;
 use crate::solving::solve;
 use crate::statuses::Status;
 use crate::touring::tour;
@@ -34,8 +37,18 @@ use tspwords::{Command, WordsError, read_command, taken_words_are_given};
 /// open it writes the proof to OUT and prints `OPTIMAL` with the length; else it writes the body to OUT and prints `STOPPED`. The
 /// same words give the same text and bytes.
 ///
+/// `replay INSTANCE TAPE [--budget N] [--grunts K]` reads the instance, and lets a boss that begins as `solve` does, with K grunts and no
+/// gap, answer to the events of the tape, whoever wrote it. To each it prints a line as the tape comes, and at the end `END` with its counts,
+/// or `FRAME` with the first fault of the tape and the number of its frame.
+///
+/// `bound INSTANCE CERT [--steps K]` reads the instance, raises duals in K steps, writes the certificate of their Held-Karp bound to
+/// CERT, and prints `BOUND` with it.
+///
+/// `checkbound INSTANCE CERT` reads the instance and then the certificate, whoever wrote it, and prints `CHECKED` and its bound where it
+/// is accepted, and else `REFUSED` and its first refusal with the line of it.
+///
 /// Each command has a record of how it ends, by its status (`specs/Runs.antt`); what the statuses of an answer promise stands in
-/// `specs/Headline.antt`. Where the desk or the slots do not tell what they hold, these speak of the counts of faults alone. Only
+/// `specs/Headline.antt` and `specs/Bounds.antt`. Where the desk or the slots do not tell what they hold, these speak of the counts of faults alone. Only
 /// `solve` touches the slots.
 pub fn run<R: Threads + Wait + Sync, D: Desk, L: Slots, P: Posts + Sync, G: Gate + Sync>(
     rt: &R,
@@ -89,10 +102,9 @@ pub fn run<R: Threads + Wait + Sync, D: Desk, L: Slots, P: Posts + Sync, G: Gate
         Ok(Command::Verify(words)) => verify(alloc, &words, desk),
         Ok(Command::Tour(words)) => tour(alloc, &words, desk),
         Ok(Command::Bench(words)) => bench(alloc, &words, desk),
-        // the parser knows these, and no request of them has come yet
-        Ok(Command::Replay(_words)) => usage(desk),
-        Ok(Command::Bound(_words)) => usage(desk),
-        Ok(Command::Checkbound(_words)) => usage(desk),
+        Ok(Command::Bound(words)) => bound(alloc, &words, desk),
+        Ok(Command::Checkbound(words)) => checkbound(alloc, &words, desk),
+        Ok(Command::Replay(words)) => replay(alloc, &words, desk),
         Err(WordsError::Usage) => usage(desk),
         Err(WordsError::NoMemory) => Status::NoMemory,
     }

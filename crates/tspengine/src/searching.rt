@@ -33,7 +33,7 @@ const MOST_LOST: u32 = 256;
 
 /// Works until no node is open or the budget is settled: first by grunts in threads, in rounds, and then alone. After each round, and
 /// after each 1,024 nodes that are settled alone, it saves a body to go on from, where a node is open and the budget is not settled.
-/// One pool of cuts serves all nodes.
+/// One pool of cuts serves all nodes, and one worker.
 pub(crate) fn search<R: Threads + Wait + Sync, L: Slots, P: Posts + Sync, G: Gate + Sync>(
     crew: &Crew<'_, R, P, G>,
     alloc: Global,
@@ -75,6 +75,7 @@ fn field_of(alloc: Global, instance: &Instance, near: Neigh, seed: u64) -> Resul
     Ok(Field {
         near,
         pool: SharedPool::new(alloc, instance.n())?,
+        worker: LpWorker::new(alloc),
         instance: shared(alloc, instance)?,
         seed,
     })
@@ -145,7 +146,7 @@ fn play_round<R: Threads + Wait + Sync, P: Posts + Sync, G: Gate + Sync>(
         &field.pool,
         Arc::try_clone(&field.instance)?,
         &field.near,
-        &LpWorker,
+        &field.worker,
         crew.posts,
         crew.gate,
         field.seed,
@@ -185,7 +186,8 @@ fn turns_alone<R: Threads + Wait + Sync, P: Posts + Sync, G: Gate + Sync>(
         &mut seat,
         &field.instance,
         &field.near,
-        &LpWorker,
+        &field.worker,
+        crew.gate,
         TURNS,
         field.seed,
         gap,

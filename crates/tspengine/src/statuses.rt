@@ -22,6 +22,12 @@ pub enum Status {
     Toured,
     /// The proof for a drawn instance was written, and its length printed.
     Benched,
+    /// A lower bound was printed, and its certificate written.
+    Bounded,
+    /// The certificate is accepted, and no tour is shorter than the printed bound.
+    Checked,
+    /// A tape was played to its end, and a line printed to each of its events.
+    Replayed,
     /// The words are not of a command's form.
     Usage,
     /// The bytes of the instance are not an instance's text.
@@ -30,6 +36,10 @@ pub enum Status {
     BadRestart,
     /// The bytes of the proof are no proof for the instance; the first refusal and its line were printed.
     Refused,
+    /// The bytes of the certificate prove no bound for the instance; the first refusal and its line were printed.
+    BoundRefused,
+    /// The bytes of the tape are not a tape's; lines were printed to the events before its first fault, and the fault with its frame.
+    BadTape,
     /// The budget is spent and a node is open; the slots hold a body to go on from.
     Stopped,
     /// The budget is spent and a node is open; the body for a drawn instance was written.
@@ -50,10 +60,16 @@ impl Status {
         ensures { result ≡ code_of self }
     {
         match self {
-            Status::Optimal | Status::Verified | Status::Toured | Status::Benched => 0,
+            Status::Optimal
+            | Status::Verified
+            | Status::Toured
+            | Status::Benched
+            | Status::Bounded
+            | Status::Checked
+            | Status::Replayed => 0,
             Status::Usage => 2,
             Status::BadInstance => 3,
-            Status::BadRestart | Status::Refused => 4,
+            Status::BadRestart | Status::Refused | Status::BoundRefused | Status::BadTape => 4,
             Status::Stopped | Status::BenchStopped => 5,
             Status::ReadFault => 6,
             Status::WriteFault => 7,

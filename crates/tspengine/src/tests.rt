@@ -594,7 +594,7 @@ fn other_words_are_usage(rt: HostRuntime) -> Result<(), Fail> {
         assert_eq!(rt; ended.status, Status::Usage);
         assert_eq!(rt;
             ended.text(),
-            b"USAGE tspc solve/verify/tour/bench\n".as_slice()
+            b"USAGE tspc solve/verify/tour/bench/replay/bound/checkbound\n".as_slice()
         );
         assert_eq!(rt; ended.desk.proof(), b"".as_slice());
     }

@@ -6,7 +6,7 @@ ghost use Rattle.tspengine.specs.Texts.{cities_text};
 use std::alloc::{AllocError, Global};
 
 /// What is printed where the words are not of a command's form.
-pub(crate) const USAGE: &str = "USAGE tspc solve/verify/tour/bench\n";
+pub(crate) const USAGE: &str = "USAGE tspc solve/verify/tour/bench/replay/bound/checkbound\n";
 
 /// A shortest tour and its length.
 fn optimal_text(alloc: Global, length: u64, tour: &[u32]) -> Result<Vec<u8>, AllocError>

@@ -10,6 +10,7 @@ use bossx::{Boss, Brought, Front, events_have_no_choice};
 use cutpool::CutBox;
 use cyc::Tour;
 use neigh::Neigh;
+use ports::Gate;
 use pricer::Report;
 use std::alloc::{AllocError, Global};
 use treebook::{tables_are_trees, tables_grow};
@@ -19,16 +20,18 @@ use worker::{Effort, Work, Worker};
 /// Lets a sure worker work on the open nodes of a boss, the one with the least number first, until none is open, the budget is spent,
 /// or so many turns are over. In a turn a tour that the worker finds is offered, and its report on the node is the boss's own: the
 /// node is closed or split. The box is handed to each work on a node, so cuts of one may serve another. The same seed goes to each.
+/// After each turn the gate is told how the search stands.
 ///
 /// The instance and the gap are the boss's. Each node split since the boss's start was one that may be split where tours are known
 /// of the length that the boss started with; so it is afterwards.
-pub fn alone<W: Worker, B: CutBox>(
+pub fn alone<W: Worker, B: CutBox, G: Gate>(
     alloc: Global,
     boss: Boss,
     shared: &mut B,
     instance: &Instance,
     near: &Neigh,
     worker: &W,
+    gate: &G,
     turns: u32,
     seed: u64,
     gap: u64,
@@ -49,6 +52,7 @@ pub fn alone<W: Worker, B: CutBox>(
         instance,
         near,
         worker,
+        gate,
         turns,
         seed,
         gap,
@@ -57,13 +61,14 @@ pub fn alone<W: Worker, B: CutBox>(
 }
 
 /// The same; what the work cost is added to `effort`.
-pub fn alone_counted<W: Worker, B: CutBox>(
+pub fn alone_counted<W: Worker, B: CutBox, G: Gate>(
     alloc: Global,
     mut boss: Boss,
     shared: &mut B,
     instance: &Instance,
     near: &Neigh,
     worker: &W,
+    gate: &G,
     turns: u32,
     seed: u64,
     gap: u64,
@@ -78,18 +83,19 @@ pub fn alone_counted<W: Worker, B: CutBox>(
     ensures { IfOk result (IsAlone W.splits turns boss) }
 {
     take_turns(
-        alloc, &mut boss, shared, instance, near, worker, turns, seed, gap, effort,
+        alloc, &mut boss, shared, instance, near, worker, gate, turns, seed, gap, effort,
     )?;
     Ok(boss)
 }
 
-fn take_turns<W: Worker, B: CutBox>(
+fn take_turns<W: Worker, B: CutBox, G: Gate>(
     alloc: Global,
     boss: &mut Boss,
     shared: &mut B,
     instance: &Instance,
     near: &Neigh,
     worker: &W,
+    gate: &G,
     turns: u32,
     seed: u64,
     gap: u64,
@@ -109,8 +115,20 @@ fn take_turns<W: Worker, B: CutBox>(
         };
         let cost = turn(alloc, boss, shared, instance, near, worker, node, seed, gap)?;
         *effort = effort.and(cost);
+        tell(gate, boss);
     }
     Ok(())
+}
+
+/// Tells the gate how the search stands. O(1).
+fn tell<G: Gate>(gate: &G, boss: &Boss) {
+    let (_, tree) = boss.snapshot();
+    gate.stands(
+        boss.best_length(),
+        tree.open_nodes(),
+        boss.settled(),
+        boss.least_key(),
+    );
 }
 
 /// The open node with the least number, unless the budget is spent.

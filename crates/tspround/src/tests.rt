@@ -14,8 +14,10 @@ use cutpool::{CutBox, NoCuts};
 use cyc::{CitySet, Tour};
 use distx::{Kind, Point};
 use neigh::{Neigh, nearest};
+use ports::{Gate, OpenGate, Point as Place};
 use pricer::Report;
 use std::alloc::{AllocError, Global};
+use std::sync::atomic::{AtomicU64, Ordering};
 use std::test::Fail;
 use treebook::Tree;
 use tspinst::{Instance, from_points};
@@ -109,6 +111,7 @@ fn go(
         square,
         &near,
         &Telling,
+        &OpenGate,
         turns,
         7,
         gap,
@@ -132,6 +135,7 @@ fn go_on(alloc: Global, boss: Boss, square: &Instance, turns: u32, gap: u64) -> 
         square,
         &near,
         &Telling,
+        &OpenGate,
         turns,
         7,
         gap,
@@ -294,5 +298,60 @@ fn a_set_among_more_cities_is_made_one_of_the_square(rt: HostRuntime) -> Result<
         }
         None => return Err("another report".into()),
     }
+    Ok(())
+}
+
+/// Counts what it is told, and keeps the numbers of settled nodes as the digits of one number.
+#[derive(Drop)]
+struct Counting {
+    told: AtomicU64,
+    settled: AtomicU64,
+}
+
+impl Gate for Counting {
+    fn pass(&self, _grunt: u32, _lease: u32, _point: Place) {}
+
+    fn stands(&self, best: u64, open: u32, settled: u32, least_key: Option<i64>) {
+        let is_known = best == 48 && (open == 0) == least_key.is_none();
+        self.told.fetch_add(u64::from(is_known), Ordering::SeqCst);
+        let before = self.settled.load(Ordering::SeqCst);
+        self.settled.store(
+            before.wrapping_mul(10).wrapping_add(u64::from(settled)),
+            Ordering::SeqCst,
+        );
+    }
+}
+
+/// What a gate is told of some turns on the square: how often, and after how many settled nodes each time.
+fn told(alloc: Global, turns: u32) -> Result<(u64, u64), Fail> {
+    let square = square(alloc)?;
+    let near = nearest(alloc, &square, 2)?;
+    let gate = Counting {
+        told: AtomicU64::new(0),
+        settled: AtomicU64::new(0),
+    };
+    let boss = begin(alloc, &square, 100, 0)?;
+    alone(
+        alloc,
+        boss,
+        &mut NoCuts,
+        &square,
+        &near,
+        &Telling,
+        &gate,
+        turns,
+        7,
+        0,
+    )?;
+    Ok((
+        gate.told.load(Ordering::SeqCst),
+        gate.settled.load(Ordering::SeqCst),
+    ))
+}
+
+#[test]
+fn a_gate_is_told_after_each_turn(rt: HostRuntime) -> Result<(), Fail> {
+    assert_eq!(rt; told(rt.alloc(), 0)?, (0, 0));
+    assert_eq!(rt; told(rt.alloc(), 3)?, (3, 123));
     Ok(())
 }

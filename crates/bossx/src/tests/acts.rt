@@ -54,7 +54,7 @@ fn triangle(alloc: Global) -> Result<Instance, Fail> {
 }
 
 /// The tour of these cities.
-pub(super) fn tour(alloc: Global, cities: &[u32]) -> Result<Tour, Fail> {
+fn tour(alloc: Global, cities: &[u32]) -> Result<Tour, Fail> {
     if cities.len() < 3 || cities.len() > 2000 {
         return Err("no tour".into());
     }
@@ -75,7 +75,7 @@ fn is_tour_of(instance: &Instance, tour: &Tour) -> bool
 }
 
 /// A boss over the tree of one open node.
-pub(super) fn boss(
+fn boss(
     alloc: Global,
     instance: &Instance,
     best: Tour,
@@ -177,7 +177,7 @@ fn is_call(boss: &Boss, event: &Event) -> bool
 }
 
 /// What a boss replies to an event. A grunt that asks has to be one of the boss's.
-pub(super) fn reply(boss: &mut Boss, event: Event) -> Result<Reply, Fail> {
+fn reply(boss: &mut Boss, event: Event) -> Result<Reply, Fail> {
     if !is_call(boss, &event) {
         return Err("no such grunt".into());
     }

@@ -1,5 +1,4 @@
-use Rattle.std.proofs.Common.{◌≡◌, true}
-use Rattle.tspdef.specs.Tours.{steps, has_step}
+use Rattle.tspdef.specs.Tours.{steps}
 use Rattle.linkern.proofs.RestLemmas.{joined_ahead, joined_behind, reaches_more}
 use Rattle.grunt.proofs.offers.joins_fixed.Goals as goal
 use Rattle.grunt.proofs.offers.joins_fixed.Goals.{else-next-pair-via-then-next-pair+else-prev-pair, else-next-pair-via-else-next-pair}

@@ -1,4 +1,4 @@
-use Rattle.std.proofs.Common.{◌≡◌, ℕ, ◌<◌, true, sym, ap, subst, ◌∙◌, arith}
+use Rattle.std.proofs.Common.{◌≡◌, ◌<◌, true, sym, ap, subst, ◌∙◌, arith}
 use Rattle.simplex.specs.Lp.{Program}
 use Rattle.nodelp.specs.Node.{Node, IsClean}
 use Rattle.grunt.specs.Rounds.{HasGrown}

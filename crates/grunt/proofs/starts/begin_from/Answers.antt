@@ -1,5 +1,5 @@
 use Rattle.std.proofs.Common.{◌≤◌, sym, subst}
-use Rattle.grunt.proofs.RowLemmas.{cliques_are, begun_further}
+use Rattle.grunt.proofs.RowLemmas.{cliques_are}
 use Rattle.grunt.proofs.starts.begin_from.Goals as goal
 
 pub over-requires-clause-few_cliques : goal.over-requires-clause-few_cliques

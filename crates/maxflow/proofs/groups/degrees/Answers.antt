@@ -1,4 +1,4 @@
-use Rattle.std.proofs.Common.{◌==◌, ℕ}
+use Rattle.std.proofs.Common.{◌==◌}
 use Rattle.maxflow.proofs.CrossingLemmas.{crossing_small}
 use Rattle.maxflow.proofs.ShrinkLemmas.{exact}
 use Rattle.maxflow.proofs.groups.degrees.Goals as goal

@@ -1,4 +1,4 @@
-use Rattle.std.proofs.Common.{◌≡◌, inr, refl, arith}
+use Rattle.std.proofs.Common.{inr, refl}
 use Rattle.maxflow.proofs.ShrinkLemmas.{tied_turned}
 use Rattle.maxflow.proofs.groups.tie.Goals as goal
 

@@ -1,8 +1,7 @@
 use Rattle.std.proofs.Common.{◌≡◌, slice_index, ◌∙◌, subst, arith, ⊎_elim}
 use Rattle.std.proofs.lemmas.Bool.{cases_eq}
 use Rattle.std.proofs.lemmas.Grind.{get_or_default_zero}
-use Rattle.maxflow.specs.Crossings.{between}
-use Rattle.maxflow.specs.Shrinking.{in_group, AreTied}
+use Rattle.maxflow.specs.Shrinking.{AreTied}
 use Rattle.maxflow.proofs.groups.tied_to.Goals as goal
 use Rattle.maxflow.proofs.groups.tied_to.Goals.{then-b-a+then-group_of-b+else-weight-value, else-weight-value-via-then-weight-value+else-degrees-b, else-weight-value-via-else-weight-value, else-b-a, else-b-a-via-then-b-a+else-group_of-b, else-b-a-via-else-b-a}
 

@@ -1,4 +1,4 @@
-use Rattle.std.proofs.Common.{◌≡◌, ℕ, ◌∙◌, slice_index, subst, arith}
+use Rattle.std.proofs.Common.{◌≡◌, ◌∙◌, subst, arith}
 use Rattle.maxflow.specs.Crossings.{crossing}
 use Rattle.maxflow.specs.Shrinking.{in_group}
 use Rattle.maxflow.specs.Merging.{IsLighterOf}

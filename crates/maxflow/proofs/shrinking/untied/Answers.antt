@@ -1,5 +1,4 @@
-use Rattle.std.proofs.Common.{◌≡◌, ◌+◌, arith, ⊎_elim}
-use Rattle.std.proofs.lemmas.Bool.{cases_eq}
+use Rattle.std.proofs.Common.{◌+◌}
 use Rattle.maxflow.proofs.ShrinkLemmas.{untied_but, untied_with}
 use Rattle.maxflow.proofs.shrinking.untied.Goals as goal
 

@@ -1,10 +1,10 @@
-use Rattle.std.proofs.Common.{refl, inl, inr, ap, Err, subst, map, string_bytes}
+use Rattle.std.proofs.Common.{refl, ap, Err, subst, map, string_bytes}
 use Rattle.tspwords.specs.Program.{IsTaken, IsSolveCall, IsVerifyCall, IsTourCall, IsBenchCall, IsReplayCall, IsBoundCall, IsCheckboundCall}
 use Rattle.tspwords.specs.Says.{Says}
 use Rattle.tspwords.specs.declared.words.Command.{Command}
 use Rattle.tspengine.specs.Calls.{Outside, Call}
 use Rattle.tspengine.specs.declared.statuses.Status.TheVariants as status
-use Rattle.tspengine.proofs.Commands.{ends_solve, ends_verify, ends_tour, ends_bench, ends_usage, ends_idle, IsIdle, causes_solve, causes_verify, causes_tour, causes_bench, causes_usage, causes_idle}
+use Rattle.tspengine.proofs.Commands.{ends_solve, ends_verify, ends_tour, ends_bench, ends_replay, ends_bound, ends_checkbound, ends_usage, ends_idle, IsIdle, causes_solve, causes_verify, causes_tour, causes_bench, causes_replay, causes_bound, causes_checkbound, causes_usage, causes_idle}
 use Rattle.tspengine.proofs.Completions.{runs_so}
 use Rattle.tspengine.proofs.running.run.Goals as goal
 
@@ -119,10 +119,12 @@ returns-in-Ok-Bench g c =
     let ends = c.bench.ensures.ends call says refl in
     runs_so c.bodies_have_one_reading.ensures s call (ends_bench s call is ends) (causes_bench s call ends refl c.bench.ensures.reads c.bench.ensures.writes)
 
-pub returns-in-Err-Usage : goal.returns-in-Err-Usage
-returns-in-Err-Usage g c =
+pub returns-in-Ok-Bound : goal.returns-in-Ok-Bound
+returns-in-Ok-Bound g c =
     let words = map string_bytes c.args.words.now in
-    let s = c.usage-in-Err-Usage.result in
+    let says = subst (λ (x : Command). Says words x) c.in-Ok-Bound.field-0-is c.in-Ok-Bound.ensures.says in
+    let is : IsBoundCall words = record { taken = c.in-Ok-Bound.ensures.taken; named = says.named } in
+    let s = c.bound.result in
     let call : Call = record {
       words = words;
       before = record {
@@ -134,23 +136,76 @@ returns-in-Err-Usage g c =
         store_faults = g.L.Slots.faults c.args.slots.now;
       };
       after = record {
-        desk = g.D.Desk.told c.usage-in-Err-Usage.new.desk;
+        desk = g.D.Desk.told c.bound.new.desk;
         slots = g.L.Slots.told c.args.slots.now;
         moments = g.L.Slots.past c.args.slots.now;
-        read_faults = g.D.Desk.read_faults c.usage-in-Err-Usage.new.desk;
-        write_faults = g.D.Desk.write_faults c.usage-in-Err-Usage.new.desk;
+        read_faults = g.D.Desk.read_faults c.bound.new.desk;
+        write_faults = g.D.Desk.write_faults c.bound.new.desk;
         store_faults = g.L.Slots.faults c.args.slots.now;
       };
     } in
-    let ends = c.usage-in-Err-Usage.ensures.ends call refl in
-    let none : ¬ IsTaken words = c.in-Err-Usage.ensures.usage (ap Err c.in-Err-Usage.field-0-is) in
-    runs_so c.bodies_have_one_reading.ensures s call (ends_usage s call (inr (inr (inr none))) ends) (causes_usage s call ends refl c.usage-in-Err-Usage.ensures.same c.usage-in-Err-Usage.ensures.writes)
+    let ends = c.bound.ensures.ends call says refl in
+    runs_so c.bodies_have_one_reading.ensures s call (ends_bound s call is ends) (causes_bound s call ends refl c.bound.ensures.reads c.bound.ensures.writes)
+
+pub returns-in-Ok-Checkbound : goal.returns-in-Ok-Checkbound
+returns-in-Ok-Checkbound g c =
+    let words = map string_bytes c.args.words.now in
+    let says = subst (λ (x : Command). Says words x) c.in-Ok-Checkbound.field-0-is c.in-Ok-Checkbound.ensures.says in
+    let is : IsCheckboundCall words = record { taken = c.in-Ok-Checkbound.ensures.taken; named = says.named } in
+    let s = c.checkbound.result in
+    let call : Call = record {
+      words = words;
+      before = record {
+        desk = g.D.Desk.told c.args.desk.now;
+        slots = g.L.Slots.told c.args.slots.now;
+        moments = g.L.Slots.past c.args.slots.now;
+        read_faults = g.D.Desk.read_faults c.args.desk.now;
+        write_faults = g.D.Desk.write_faults c.args.desk.now;
+        store_faults = g.L.Slots.faults c.args.slots.now;
+      };
+      after = record {
+        desk = g.D.Desk.told c.checkbound.new.desk;
+        slots = g.L.Slots.told c.args.slots.now;
+        moments = g.L.Slots.past c.args.slots.now;
+        read_faults = g.D.Desk.read_faults c.checkbound.new.desk;
+        write_faults = g.D.Desk.write_faults c.checkbound.new.desk;
+        store_faults = g.L.Slots.faults c.args.slots.now;
+      };
+    } in
+    let ends = c.checkbound.ensures.ends call says refl in
+    runs_so c.bodies_have_one_reading.ensures s call (ends_checkbound s call is ends) (causes_checkbound s call ends refl c.checkbound.ensures.reads c.checkbound.ensures.writes)
 
 pub returns-in-Ok-Replay : goal.returns-in-Ok-Replay
 returns-in-Ok-Replay g c =
     let words = map string_bytes c.args.words.now in
     let says = subst (λ (x : Command). Says words x) c.in-Ok-Replay.field-0-is c.in-Ok-Replay.ensures.says in
     let is : IsReplayCall words = record { taken = c.in-Ok-Replay.ensures.taken; named = says.named } in
+    let s = c.replay.result in
+    let call : Call = record {
+      words = words;
+      before = record {
+        desk = g.D.Desk.told c.args.desk.now;
+        slots = g.L.Slots.told c.args.slots.now;
+        moments = g.L.Slots.past c.args.slots.now;
+        read_faults = g.D.Desk.read_faults c.args.desk.now;
+        write_faults = g.D.Desk.write_faults c.args.desk.now;
+        store_faults = g.L.Slots.faults c.args.slots.now;
+      };
+      after = record {
+        desk = g.D.Desk.told c.replay.new.desk;
+        slots = g.L.Slots.told c.args.slots.now;
+        moments = g.L.Slots.past c.args.slots.now;
+        read_faults = g.D.Desk.read_faults c.replay.new.desk;
+        write_faults = g.D.Desk.write_faults c.replay.new.desk;
+        store_faults = g.L.Slots.faults c.args.slots.now;
+      };
+    } in
+    let ends = c.replay.ensures.ends call says refl in
+    runs_so c.bodies_have_one_reading.ensures s call (ends_replay s call is ends) (causes_replay s call ends refl c.replay.ensures.reads c.replay.ensures.writes)
+
+pub returns-in-Err-Usage : goal.returns-in-Err-Usage
+returns-in-Err-Usage g c =
+    let words = map string_bytes c.args.words.now in
     let s = c.usage.result in
     let call : Call = record {
       words = words;
@@ -172,63 +227,8 @@ returns-in-Ok-Replay g c =
       };
     } in
     let ends = c.usage.ensures.ends call refl in
-    runs_so c.bodies_have_one_reading.ensures s call (ends_usage s call (inl is) ends) (causes_usage s call ends refl c.usage.ensures.same c.usage.ensures.writes)
-
-pub returns-in-Ok-Bound : goal.returns-in-Ok-Bound
-returns-in-Ok-Bound g c =
-    let words = map string_bytes c.args.words.now in
-    let says = subst (λ (x : Command). Says words x) c.in-Ok-Bound.field-0-is c.in-Ok-Bound.ensures.says in
-    let is : IsBoundCall words = record { taken = c.in-Ok-Bound.ensures.taken; named = says.named } in
-    let s = c.usage-in-Ok-Bound.result in
-    let call : Call = record {
-      words = words;
-      before = record {
-        desk = g.D.Desk.told c.args.desk.now;
-        slots = g.L.Slots.told c.args.slots.now;
-        moments = g.L.Slots.past c.args.slots.now;
-        read_faults = g.D.Desk.read_faults c.args.desk.now;
-        write_faults = g.D.Desk.write_faults c.args.desk.now;
-        store_faults = g.L.Slots.faults c.args.slots.now;
-      };
-      after = record {
-        desk = g.D.Desk.told c.usage-in-Ok-Bound.new.desk;
-        slots = g.L.Slots.told c.args.slots.now;
-        moments = g.L.Slots.past c.args.slots.now;
-        read_faults = g.D.Desk.read_faults c.usage-in-Ok-Bound.new.desk;
-        write_faults = g.D.Desk.write_faults c.usage-in-Ok-Bound.new.desk;
-        store_faults = g.L.Slots.faults c.args.slots.now;
-      };
-    } in
-    let ends = c.usage-in-Ok-Bound.ensures.ends call refl in
-    runs_so c.bodies_have_one_reading.ensures s call (ends_usage s call (inr (inl is)) ends) (causes_usage s call ends refl c.usage-in-Ok-Bound.ensures.same c.usage-in-Ok-Bound.ensures.writes)
-
-pub returns-in-Ok-Checkbound : goal.returns-in-Ok-Checkbound
-returns-in-Ok-Checkbound g c =
-    let words = map string_bytes c.args.words.now in
-    let says = subst (λ (x : Command). Says words x) c.in-Ok-Checkbound.field-0-is c.in-Ok-Checkbound.ensures.says in
-    let is : IsCheckboundCall words = record { taken = c.in-Ok-Checkbound.ensures.taken; named = says.named } in
-    let s = c.usage-in-Ok-Checkbound.result in
-    let call : Call = record {
-      words = words;
-      before = record {
-        desk = g.D.Desk.told c.args.desk.now;
-        slots = g.L.Slots.told c.args.slots.now;
-        moments = g.L.Slots.past c.args.slots.now;
-        read_faults = g.D.Desk.read_faults c.args.desk.now;
-        write_faults = g.D.Desk.write_faults c.args.desk.now;
-        store_faults = g.L.Slots.faults c.args.slots.now;
-      };
-      after = record {
-        desk = g.D.Desk.told c.usage-in-Ok-Checkbound.new.desk;
-        slots = g.L.Slots.told c.args.slots.now;
-        moments = g.L.Slots.past c.args.slots.now;
-        read_faults = g.D.Desk.read_faults c.usage-in-Ok-Checkbound.new.desk;
-        write_faults = g.D.Desk.write_faults c.usage-in-Ok-Checkbound.new.desk;
-        store_faults = g.L.Slots.faults c.args.slots.now;
-      };
-    } in
-    let ends = c.usage-in-Ok-Checkbound.ensures.ends call refl in
-    runs_so c.bodies_have_one_reading.ensures s call (ends_usage s call (inr (inr (inl is))) ends) (causes_usage s call ends refl c.usage-in-Ok-Checkbound.ensures.same c.usage-in-Ok-Checkbound.ensures.writes)
+    let none : ¬ IsTaken words = c.in-Err-Usage.ensures.usage (ap Err c.in-Err-Usage.field-0-is) in
+    runs_so c.bodies_have_one_reading.ensures s call (ends_usage s call none ends) (causes_usage s call ends refl c.usage.ensures.same c.usage.ensures.writes)
 
 pub returns-in-Err-NoMemory : goal.returns-in-Err-NoMemory
 returns-in-Err-NoMemory g c =
@@ -261,3 +261,12 @@ solve-requires-clause-some_grunts g c κs within = (subst (λ (x : Command). Say
 
 pub solve-requires-clause-few_grunts : goal.solve-requires-clause-few_grunts
 solve-requires-clause-few_grunts g c κs within = (subst (λ (x : Command). Says (map string_bytes c.args.words.now) x) c.in-Ok-Solve.field-0-is c.in-Ok-Solve.ensures.says).team
+
+pub replay-requires-clause-few : goal.replay-requires-clause-few
+replay-requires-clause-few g c = (subst (λ (x : Command). Says (map string_bytes c.args.words.now) x) c.in-Ok-Replay.field-0-is c.in-Ok-Replay.ensures.says).few
+
+pub replay-requires-clause-some_grunts : goal.replay-requires-clause-some_grunts
+replay-requires-clause-some_grunts g c = (subst (λ (x : Command). Says (map string_bytes c.args.words.now) x) c.in-Ok-Replay.field-0-is c.in-Ok-Replay.ensures.says).some
+
+pub replay-requires-clause-few_grunts : goal.replay-requires-clause-few_grunts
+replay-requires-clause-few_grunts g c = (subst (λ (x : Command). Says (map string_bytes c.args.words.now) x) c.in-Ok-Replay.field-0-is c.in-Ok-Replay.ensures.says).team

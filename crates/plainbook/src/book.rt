@@ -1,281 +1,79 @@
-//! A plain book, to compare the boss with: the table of answers as it is read, over lists that are searched from the front. It is
-//! for five points and the sum of their differences, and knows a set of cities by its bits.
+//! The plain book: what each event is answered, over lists that are searched from the front.
 
-use crate::{Asked, Expiry, Front, Offered, Reported};
+use crate::duals::{ALL, CITIES, Duals, SCALE, Told, decides, number, tour_length};
+use crate::starts::{OPENING, Start};
+use crate::tours::has_step;
+use bossx::{Asked, Expiry, Front, Offered, Reported};
 use std::alloc::{AllocError, Global};
-
-pub(super) const CITIES: u32 = 5;
-
-pub(super) const POINTS: [(i32, i32); 5] = [(0, 0), (0, 10), (10, 10), (10, 0), (4, 5)];
-
-const SCALE: i128 = 1_048_576;
-
-const GREATEST: i128 = 4_611_686_018_427_387_904;
-
-const ALL: u32 = 31;
-
-/// A condition of a path.
-#[derive(Clone, Copy, PartialEq, Eq)]
-pub(super) enum Told {
-    Fixed(u32, u32),
-    Absent(u32, u32),
-    Present(u32, u32),
-    Two(u32),
-    Four(u32),
-}
-
-/// Duals: of the first so many cities, of a subtour cut of a set of so many cities, which comes so often, and of conditions by depth.
-#[derive(Clone, Copy)]
-pub(super) struct Duals {
-    pub city: [i64; 6],
-    pub cities: usize,
-    pub cut_n: u32,
-    pub cut_set: u32,
-    pub cut_dual: u64,
-    pub cuts: usize,
-    pub conds: [(u32, u64); 2],
-    pub cond_count: usize,
-}
 
 /// What is said of a node.
 #[derive(Drop)]
-pub(super) enum Said {
+pub enum Said {
+    /// A split by a pair.
     Edge(u32, u32),
-    /// A set of so many cities.
+    /// A split by a set, of so many cities.
     Clique(u32, u32),
+    /// A closing.
     Closed(Duals),
 }
 
+/// What became of a lease.
 #[derive(Clone, Copy, PartialEq, Eq)]
-pub(super) enum Fate {
+pub enum Fate {
+    /// Its node is lent.
     Held,
+    /// Its report was taken.
     Settled,
+    /// It came to nothing.
     Lost,
 }
 
+/// A lease: whose it is, of which node.
 #[derive(Drop)]
-pub(super) struct PlainLease {
+pub struct PlainLease {
+    /// Who holds it.
     pub grunt: u32,
+    /// What is lent.
     pub node: u32,
+    /// What became of it.
     pub fate: Fate,
 }
 
+/// A node.
 #[derive(Drop)]
-pub(super) struct PlainNode {
+pub struct PlainNode {
+    /// Its conditions, the fixed pair first.
     pub path: Vec<Told>,
+    /// Whether it is neither closed nor split.
     pub open: bool,
+    /// What it is lent by.
     pub key: i64,
 }
 
+/// The book.
 #[derive(Drop)]
-pub(super) struct PlainBook {
+pub struct PlainBook {
+    /// The pair that each tour has, if there is one.
     pub fixed: Option<(u32, u32)>,
+    /// All nodes, by their numbers.
     pub nodes: Vec<PlainNode>,
+    /// All leases, by their numbers.
     pub leases: Vec<PlainLease>,
+    /// The best tour's length.
     pub best: u64,
+    /// How many nodes are closed or split.
     pub settled: u32,
+    /// How many may be.
     pub budget: u32,
+    /// How much longer than the shortest the best tour may be in the end.
     pub gap: u64,
 }
 
-pub(super) fn number(count: usize) -> u32 {
-    (count & 0xffff_ffff) as u32
-}
-
-fn distance(u: u32, v: u32) -> u32 {
-    match (POINTS.get(u as usize), POINTS.get(v as usize)) {
-        (Some(p), Some(q)) => (p.0.abs_diff(q.0)).saturating_add(p.1.abs_diff(q.1)),
-        _ => 0,
-    }
-}
-
-pub(super) fn holds(set: u32, city: u32) -> bool {
-    set.checked_shr(city).unwrap_or(0) & 1 == 1
-}
-
-fn crosses(set: u32, u: u32, v: u32) -> bool {
-    holds(set, u) != holds(set, v)
-}
-
-/// Whether a step of the tour joins the two cities.
-fn joins(tour: &[u32], u: u32, v: u32) -> bool {
-    let mut here = tour.last().copied().unwrap_or(0);
-    for next in tour {
-        if (here == u && *next == v) || (here == v && *next == u) {
-            return true;
-        }
-        here = *next;
-    }
-    false
-}
-
-pub(super) fn tour_length(tour: &[u32]) -> u64 {
-    let mut here = tour.last().copied().unwrap_or(0);
-    let mut sum = 0u64;
-    for next in tour {
-        sum = sum.saturating_add(u64::from(distance(here, *next)));
-        here = *next;
-    }
-    sum
-}
-
-fn decides(path: &[Told], u: u32, v: u32) -> bool {
-    path.iter().any(|told| {
-        *told == Told::Fixed(u, v) || *told == Told::Absent(u, v) || *told == Told::Present(u, v)
-    })
-}
-
-/// The condition at a depth, from 1 on. Fixed pairs have none.
-fn at_depth(path: &[Told], depth: u32) -> Option<Told> {
-    let mut left = depth;
-    for told in path {
-        if !matches!(told, Told::Fixed(_, _)) {
-            if left == 1 {
-                return Some(*told);
-            }
-            left = left.saturating_sub(1);
-        }
-    }
-    None
-}
-
-fn is_on_set(path: &[Told], depth: u32) -> bool {
-    matches!(at_depth(path, depth), Some(Told::Two(_) | Told::Four(_)))
-}
-
-fn is_size(dual: u64) -> bool {
-    dual >= 1 && i128::from(dual) <= GREATEST
-}
-
-impl Duals {
-    fn dual(&self, city: u32) -> i128 {
-        match self.city.get(city as usize) {
-            Some(dual) => i128::from(*dual),
-            None => 0,
-        }
-    }
-
-    fn depth_duals(&self) -> &[(u32, u64)] {
-        self.conds.get(..self.cond_count).unwrap_or(&[])
-    }
-
-    fn have_sizes(&self) -> bool {
-        let listed = self.city.get(..self.cities).unwrap_or(&[]);
-        listed.iter().all(|dual| i128::from(*dual).unsigned_abs() <= GREATEST.unsigned_abs())
-            && (self.cuts == 0 || is_size(self.cut_dual))
-            && self.depth_duals().iter().all(|entry| is_size(entry.1))
-    }
-
-    fn have_depths(&self, path: &[Told]) -> bool {
-        let mut last = 0;
-        for entry in self.depth_duals() {
-            if entry.0 <= last || !is_on_set(path, entry.0) {
-                return false;
-            }
-            last = entry.0;
-        }
-        true
-    }
-
-    /// The least that is wrong with the duals on a path.
-    pub(super) fn misfit(&self, path: &[Told]) -> Option<u32> {
-        if self.cities != CITIES as usize {
-            Some(1)
-        } else if !self.have_sizes() {
-            Some(2)
-        } else if (self.cuts > 0 && self.cut_n != CITIES) || self.cuts > 1 {
-            Some(3)
-        } else if !self.have_depths(path) {
-            Some(4)
-        } else {
-            None
-        }
-    }
-
-    /// What the conditions by depth take off the cost of a pair.
-    fn depth_price(&self, path: &[Told], u: u32, v: u32) -> i128 {
-        let mut price = 0i128;
-        for entry in self.depth_duals() {
-            match at_depth(path, entry.0) {
-                Some(Told::Two(set)) if crosses(set, u, v) => {
-                    price = price.saturating_sub(i128::from(entry.1));
-                }
-                Some(Told::Four(set)) if crosses(set, u, v) => {
-                    price = price.saturating_add(i128::from(entry.1));
-                }
-                _ => (),
-            }
-        }
-        price
-    }
-
-    fn depth_worth(&self, path: &[Told]) -> i128 {
-        let mut worth = 0i128;
-        for entry in self.depth_duals() {
-            match at_depth(path, entry.0) {
-                Some(Told::Two(_)) => {
-                    worth = worth.saturating_sub(i128::from(entry.1).saturating_mul(2));
-                }
-                Some(Told::Four(_)) => {
-                    worth = worth.saturating_add(i128::from(entry.1).saturating_mul(4));
-                }
-                _ => (),
-            }
-        }
-        worth
-    }
-
-    fn reduced_cost(&self, path: &[Told], u: u32, v: u32) -> i128 {
-        let cut = if self.cuts > 0 && crosses(self.cut_set, u, v) {
-            i128::from(self.cut_dual)
-        } else {
-            0
-        };
-        i128::from(distance(u, v))
-            .saturating_mul(SCALE)
-            .saturating_sub(self.dual(u))
-            .saturating_sub(self.dual(v))
-            .saturating_sub(cut)
-            .saturating_sub(self.depth_price(path, u, v))
-    }
-
-    fn pair_term(&self, path: &[Told], u: u32, v: u32) -> i128 {
-        let cost = self.reduced_cost(path, u, v);
-        if path.contains(&Told::Fixed(u, v)) || path.contains(&Told::Present(u, v)) {
-            cost
-        } else if path.contains(&Told::Absent(u, v)) {
-            0
-        } else {
-            cost.min(0)
-        }
-    }
-
-    /// The bound on a path, in units.
-    fn bound(&self, path: &[Told]) -> i128 {
-        let mut sum = self.depth_worth(path);
-        if self.cuts > 0 {
-            sum = sum.saturating_add(i128::from(self.cut_dual).saturating_mul(2));
-        }
-        for u in 0..CITIES {
-            sum = sum.saturating_add(self.dual(u).saturating_mul(2));
-            for v in u + 1..CITIES {
-                sum = sum.saturating_add(self.pair_term(path, u, v));
-            }
-        }
-        sum
-    }
-}
-
 impl PlainBook {
-    pub(super) fn new(
-        alloc: Global,
-        fixed: Option<(u32, u32)>,
-        best: u64,
-        budget: u32,
-        gap: u64,
-    ) -> Result<PlainBook, AllocError> {
+    /// A book with one open node, and the tour that books begin with.
+    pub fn new(alloc: Global, start: &Start) -> Result<PlainBook, AllocError> {
         let mut path = Vec::new(alloc);
-        if let Some((u, v)) = fixed {
+        if let Some((u, v)) = start.fixed {
             path.push(Told::Fixed(u, v))?;
         }
         let mut nodes = Vec::new(alloc);
@@ -285,23 +83,25 @@ impl PlainBook {
             key: 0,
         })?;
         Ok(PlainBook {
-            fixed,
+            fixed: start.fixed,
             nodes,
             leases: Vec::new(alloc),
-            best,
+            best: tour_length(&OPENING),
             settled: 0,
-            budget,
-            gap,
+            budget: start.budget,
+            gap: start.gap,
         })
     }
 
     // ---- what it says
 
-    pub(super) fn open_count(&self) -> u32 {
+    /// How many nodes are open.
+    pub fn open_count(&self) -> u32 {
         number(self.nodes.iter().filter(|node| node.open).count())
     }
 
-    pub(super) fn count(&self, fate: Fate) -> u32 {
+    /// How many leases have this fate.
+    pub fn count(&self, fate: Fate) -> u32 {
         number(
             self.leases
                 .iter()
@@ -317,7 +117,8 @@ impl PlainBook {
         }
     }
 
-    pub(super) fn path(&self, node: u32) -> &[Told] {
+    /// The conditions of a node.
+    pub fn path(&self, node: u32) -> &[Told] {
         match self.nodes.get(node as usize) {
             Some(node) => &node.path,
             None => &[],
@@ -351,7 +152,8 @@ impl PlainBook {
 
     // ---- events
 
-    pub(super) fn ask(&mut self, grunt: u32) -> Result<Asked, AllocError> {
+    /// A grunt asks for a node.
+    pub fn ask(&mut self, grunt: u32) -> Result<Asked, AllocError> {
         let _ = self.gone(grunt);
         if self.open_count() == 0 {
             return Ok(Asked::Done);
@@ -382,7 +184,7 @@ impl PlainBook {
     }
 
     /// What is said for the node of a lease. A priced closing is at home or not, and a hint is the key of both children.
-    pub(super) fn report(
+    pub fn report(
         &mut self,
         alloc: Global,
         lease: u32,
@@ -403,12 +205,8 @@ impl PlainBook {
         Ok(reply)
     }
 
-    pub(super) fn own(
-        &mut self,
-        alloc: Global,
-        node: u32,
-        said: &Said,
-    ) -> Result<Reported, AllocError> {
+    /// The boss itself reports on a node.
+    pub fn own(&mut self, alloc: Global, node: u32, said: &Said) -> Result<Reported, AllocError> {
         let reply = self.judge(node, said, true);
         if reply == Reported::Taken {
             self.take(alloc, None, node, said, None)?;
@@ -416,7 +214,8 @@ impl PlainBook {
         Ok(reply)
     }
 
-    pub(super) fn gone(&mut self, grunt: u32) -> Option<u32> {
+    /// A grunt is gone.
+    pub fn gone(&mut self, grunt: u32) -> Option<u32> {
         let mut k = 0u32;
         for lease in self.leases.iter_mut() {
             if lease.grunt == grunt && lease.fate == Fate::Held {
@@ -428,7 +227,8 @@ impl PlainBook {
         None
     }
 
-    pub(super) fn expire(&mut self, lease: u32) -> Expiry {
+    /// The time of a lease is over.
+    pub fn expire(&mut self, lease: u32) -> Expiry {
         match self.leases.get_mut(lease as usize) {
             None => Expiry::Unknown,
             Some(lease) if lease.fate == Fate::Held => {
@@ -439,12 +239,13 @@ impl PlainBook {
         }
     }
 
-    pub(super) fn offer(&mut self, tour: &[u32]) -> Offered {
+    /// A tour is offered.
+    pub fn offer(&mut self, tour: &[u32]) -> Offered {
         if tour.len() != CITIES as usize {
             return Offered::OtherSize;
         }
         if let Some((u, v)) = self.fixed {
-            if !joins(tour, u, v) {
+            if !has_step(tour, u, v) {
                 return Offered::OffFixed(u, v);
             }
         }
@@ -456,7 +257,8 @@ impl PlainBook {
         Offered::Better
     }
 
-    pub(super) fn front(&self) -> Front {
+    /// The node that a boss without grunts works on.
+    pub fn front(&self) -> Front {
         if self.open_count() == 0 {
             return Front::Done;
         }

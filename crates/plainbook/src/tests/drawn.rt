@@ -1,50 +1,20 @@
 //! Lists of drawn events, each played by the boss and by the plain book: wrong leases, reports that are late or come twice, wrong
 //! paths, another instance's closings, weak ones and such that do not fit.
-ghost use Rattle.std.specs.Prelude.{◌<◌, ◌≤◌};
 
-use super::acts::{boss, reply, tour};
-use super::plain::{
-    CITIES, Duals, Fate, POINTS, PlainBook, Said, Told, holds, number, tour_length,
+use super::acts::{reply, tour};
+use crate::{
+    Draw, Duals, Fate, PlainBook, Said, Start, Told, boss, five_points, holds, number, tour_length,
 };
-use crate::{Asked, Boss, Brought, Event, Expiry, Front, Offered, Reply, Reported};
+use bossx::{Asked, Boss, Brought, Event, Expiry, Front, Offered, Reply, Reported};
 use branchx::{Branch, Cond, Path};
 use cutform::Cut;
 use cyc::CitySet;
-use distx::{Kind, Point};
+use distx::Kind;
 use pricer::{Closing, Priced, Pricing, Report};
 use std::alloc::Global;
 use std::sync::Arc;
 use std::test::Fail;
-use tspinst::{Instance, from_points};
-
-/// The tour that each list begins with. It has the pair that is fixed in some lists.
-const OPENING: [u32; 5] = [0, 2, 1, 3, 4];
-
-/// Numbers that look drawn.
-#[derive(Drop)]
-struct Draw {
-    state: u64,
-}
-
-impl Draw {
-    /// A number below another, or 0 where there is none.
-    fn below(&mut self, most: u32) -> u32
-        ensures { 1 ≤ most → result < most }
-    {
-        if most == 0 {
-            return 0;
-        }
-        self.state = self
-            .state
-            .wrapping_mul(6_364_136_223_846_793_005)
-            .wrapping_add(1_442_695_040_888_963_407);
-        ((self.state >> 33) % u64::from(most)) as u32
-    }
-
-    fn one_of(&mut self, most: u32) -> bool {
-        self.below(most) == 0
-    }
-}
+use tspinst::Instance;
 
 /// An event with its data.
 #[derive(Drop)]
@@ -115,88 +85,6 @@ impl Tally {
 
 // ---- drawing
 
-/// A lease: mostly one of the newest, at times an old one or one that was never granted.
-fn draw_lease(draw: &mut Draw, grants: u32) -> u32 {
-    if draw.one_of(6) {
-        draw.below(grants.saturating_add(3))
-    } else {
-        grants.saturating_sub(1).saturating_sub(draw.below(3))
-    }
-}
-
-fn draw_edge(draw: &mut Draw) -> (u32, u32) {
-    let u = draw.below(5);
-    let v = draw.below(6);
-    if draw.one_of(8) {
-        (u, v)
-    } else {
-        (u.min(v), u.max(v))
-    }
-}
-
-/// Duals near those of a good bound.
-fn draw_city(draw: &mut Draw) -> [i64; 6] {
-    let mut city = [5_242_880i64, 5_242_880, 5_242_880, 5_242_880, 4_194_304, 0];
-    for dual in city.iter_mut() {
-        *dual = dual.saturating_add(i64::from(draw.below(4)).saturating_mul(131_072));
-    }
-    if draw.one_of(16) {
-        city[0] = i64::MIN;
-    }
-    if draw.one_of(6) {
-        city = [-1_000_000; 6];
-    }
-    city
-}
-
-fn draw_duals(draw: &mut Draw) -> Duals {
-    let city = draw_city(draw);
-    Duals {
-        city,
-        cities: if draw.one_of(12) { 4 } else { 5 },
-        cut_n: if draw.one_of(8) { 6 } else { 5 },
-        cut_set: 1 + draw.below(30),
-        cut_dual: u64::from(draw.below(8)).saturating_mul(65_536),
-        cuts: if draw.one_of(3) {
-            1 + draw.below(2) as usize
-        } else {
-            0
-        },
-        conds: [
-            (1 + draw.below(3), 1 + u64::from(draw.below(300_000))),
-            (
-                2 + draw.below(3),
-                u64::from(draw.below(4)).saturating_mul(100_000),
-            ),
-        ],
-        cond_count: if draw.one_of(2) {
-            draw.below(3) as usize
-        } else {
-            0
-        },
-    }
-}
-
-fn draw_said(draw: &mut Draw) -> Said {
-    match draw.below(8) {
-        0 | 1 | 2 => {
-            let (u, v) = draw_edge(draw);
-            Said::Edge(u, v)
-        }
-        3 | 4 => Said::Clique(if draw.one_of(10) { 6 } else { 5 }, draw.below(32)),
-        _ => Said::Closed(draw_duals(draw)),
-    }
-}
-
-fn draw_tour(draw: &mut Draw) -> [u32; 5] {
-    let mut cities = [0u32, 1, 2, 3, 4];
-    for k in 0..5usize {
-        let other = draw.below(5) as usize;
-        cities.swap(k, other);
-    }
-    cities
-}
-
 /// The node of a lease in the plain book, or at times another.
 fn draw_node(draw: &mut Draw, plain: &PlainBook, lease: u32) -> u32 {
     if draw.one_of(4) {
@@ -213,24 +101,24 @@ fn draw_offer(draw: &mut Draw) -> Case {
     if draw.one_of(8) {
         Case::Offer([0, 1, 2, 3, 4], 4)
     } else {
-        Case::Offer(draw_tour(draw), 5)
+        Case::Offer(draw.tour(), 5)
     }
 }
 
 fn draw_case(draw: &mut Draw, plain: &PlainBook) -> Case {
-    let lease = draw_lease(draw, number(plain.leases.len()));
+    let lease = draw.lease(number(plain.leases.len()));
     match draw.below(20) {
         0..=6 => Case::Ask(1 + draw.below(3)),
-        7..=10 => Case::Report(lease, draw_said(draw)),
+        7..=10 => Case::Report(lease, draw.said()),
         11 | 12 => {
-            let (u, v) = draw_edge(draw);
+            let (u, v) = draw.edge();
             Case::Hinted(lease, u, v, i64::from(draw.below(5)) - 2)
         }
         13 | 14 => {
             let node = draw_node(draw, plain, lease);
-            Case::Weighed(lease, node, !draw.one_of(6), draw_duals(draw))
+            Case::Weighed(lease, node, !draw.one_of(6), draw.duals())
         }
-        15 => Case::Own(draw.below(number(plain.nodes.len())), draw_said(draw)),
+        15 => Case::Own(draw.below(number(plain.nodes.len())), draw.said()),
         16 => Case::Gone(draw.below(5)),
         17 => Case::Expire(lease),
         _ => draw_offer(draw),
@@ -270,21 +158,6 @@ fn report(alloc: Global, said: &Said) -> Result<Report, Fail> {
         Said::Clique(n, bits) => Report::Split(Branch::Clique(set(alloc, *n, *bits)?)),
         Said::Closed(duals) => Report::Closed(closing(alloc, duals)?),
     })
-}
-
-fn instance(alloc: Global, kind: Kind, fixed: Option<(u32, u32)>) -> Result<Instance, Fail> {
-    let mut points = Vec::new(alloc);
-    for (x, y) in POINTS {
-        points.push(Point::new(x, y))?;
-    }
-    if points.len() < 3 || points.len() > 2000 {
-        return Err("no points".into());
-    }
-    let free = from_points(alloc, kind, &points)?;
-    match fixed {
-        Some(pair) => Ok(free.fix(alloc, &[pair])?),
-        None => Ok(free),
-    }
 }
 
 /// The path of a node of the boss.
@@ -479,27 +352,6 @@ fn same_paths(alloc: Global, boss: &Boss, plain: &PlainBook) -> Result<bool, Fai
     Ok(true)
 }
 
-/// What a list begins with.
-#[derive(Drop)]
-struct Start {
-    fixed: Option<(u32, u32)>,
-    budget: u32,
-    gap: u64,
-}
-
-fn draw_start(draw: &mut Draw) -> Start {
-    Start {
-        fixed: if draw.one_of(3) { Some((0, 2)) } else { None },
-        budget: draw.below(60),
-        gap: match draw.below(4) {
-            0 => 0,
-            1 => 1,
-            2 => 3,
-            _ => 60,
-        },
-    }
-}
-
 /// The boss and the plain book side by side.
 #[derive(Drop)]
 struct Both {
@@ -509,21 +361,15 @@ struct Both {
 }
 
 fn pair_of(alloc: Global, fixed: Option<(u32, u32)>) -> Result<Pair, Fail> {
-    let own = instance(alloc, Kind::Man, fixed)?;
-    let other = instance(alloc, Kind::Max, fixed)?;
+    let own = five_points(alloc, Kind::Man, fixed)?;
+    let other = five_points(alloc, Kind::Max, fixed)?;
     Ok(Pair { own, other })
-}
-
-fn boss_of(alloc: Global, pair: &Pair, start: &Start) -> Result<Boss, Fail> {
-    let best = tour(alloc, &OPENING)?;
-    boss(alloc, &pair.own, best, start.budget, 3, start.gap)
 }
 
 fn both_of(alloc: Global, start: &Start) -> Result<Both, Fail> {
     let pair = pair_of(alloc, start.fixed)?;
-    let boss = boss_of(alloc, &pair, start)?;
-    let length = tour_length(&OPENING);
-    let plain = PlainBook::new(alloc, start.fixed, length, start.budget, start.gap)?;
+    let boss = boss(alloc, &pair.own, start, 3)?;
+    let plain = PlainBook::new(alloc, start)?;
     Ok(Both { boss, plain, pair })
 }
 
@@ -558,10 +404,8 @@ impl Both {
 
 /// Plays a list from a start of its own. Whether both went the same way.
 fn plays_alike(alloc: Global, list: u32, tally: &mut Tally) -> Result<bool, Fail> {
-    let mut draw = Draw {
-        state: u64::from(list).wrapping_mul(0x9e37_79b9_7f4a_7c15),
-    };
-    let mut both = both_of(alloc, &draw_start(&mut draw))?;
+    let mut draw = Draw::new(list);
+    let mut both = both_of(alloc, &draw.start())?;
     if both.first_difference(alloc, &mut draw, tally)?.is_some() {
         return Ok(false);
     }

@@ -2,7 +2,7 @@ use Rattle.std.proofs.Common.{subst, arith}
 use Rattle.std.specs.Prelude.{IfSome}
 use Rattle.branchx.specs.Choice.{IsChoice}
 use Rattle.worker.proofs.Edges.{edge_below_six}
-use Rattle.grunt.proofs.splits.branch_at.Goals as goal
+use Rattle.grunt.proofs.splits.chosen.Goals as goal
 
 pub returns-clause-edge : goal.returns-clause-edge
 returns-clause-edge c = λ l.
