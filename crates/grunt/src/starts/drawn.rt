@@ -1,5 +1,7 @@
 //! Starts that lie.
 
+ghost use Rattle.std.specs.Prelude.{◌<◌, ◌≤◌};
+
 use super::{Start, pair_key};
 use cutform::Cut;
 use cyc::CitySet;
