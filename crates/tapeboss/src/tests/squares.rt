@@ -1,7 +1,4 @@
 //! Tapes for a boss over the square, and what they are answered.
-ghost use Rattle.std.specs.Prelude.{IsTrue};
-ghost use Rattle.tspdef.specs.Instances.{IsTourOf};
-
 use crate::{Fault, Tape, TapeError};
 use bossx::Boss;
 use cyc::Tour;
@@ -36,13 +33,6 @@ fn square(alloc: Global) -> Result<Instance, Fail> {
     Ok(from_points(alloc, Kind::Euc, &corners)?)
 }
 
-/// Whether a tour has the cities of an instance without fixed pairs.
-fn is_tour_of(instance: &Instance, tour: &Tour) -> bool
-    ensures { IsTrue result → IsTourOf instance.now tour.now }
-{
-    tour.n() == instance.n() && instance.fixed().is_empty()
-}
-
 /// A tape for a boss over the tree of one open node.
 pub(super) fn tape_for(
     alloc: Global,
@@ -54,7 +44,7 @@ pub(super) fn tape_for(
     if budget > 500_000 || grunts < 1 || grunts > 64 {
         return Err("too many".into());
     }
-    if !is_tour_of(instance, &best) {
+    if best.n() != instance.n() || !instance.fixed().is_empty() {
         return Err("no tour of the instance".into());
     }
     let tree = Tree::with_fixed(alloc, instance.n(), instance.fixed())?;
