@@ -7,11 +7,11 @@ use std::test::Fail;
 use std::thread::Threads;
 
 /// Whether `verify` prints this line of an instance and a proof.
-fn prints<R: Threads + Wait + Sync>(
+fn prints<'x, R: Threads + Wait + Sync>(
     rt: &R,
     alloc: Global,
-    instance: &str,
-    proof: &str,
+    instance: &'x str,
+    proof: &'x str,
     line: &str,
 ) -> Result<bool, Fail> {
     let case = Case {

@@ -135,12 +135,12 @@ fn relax(instance: &Instance, duals: &[i64], city: u32, near: &mut [u32], least:
     }
 }
 
-/// Takes the new city and cost where the cost is less.
+/// Takes the new city and cost where the cost is no more. On a tie the newest city is taken, so that a tree of even distances is a path.
 #[inline]
 fn closer(city: u32, new: i128, near: &mut u32, least: &mut i128)
     ensures { ((least.old ≤ℤ new) × (near.new ≡ near.old) × (least.new ≡ least.old)) ⊎ ((new ≤ℤ least.old) × (near.new ≡ city) × (least.new ≡ new)) }
 {
-    if new < *least {
+    if new <= *least {
         *near = city;
         *least = new;
     }

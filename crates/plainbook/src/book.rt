@@ -1,6 +1,7 @@
 //! The plain book: what each event is answered, over lists that are searched from the front.
 
 use crate::duals::{ALL, CITIES, Duals, SCALE, Told, decides, number, tour_length};
+use crate::starts::{OPENING, Start};
 use crate::tours::has_step;
 use bossx::{Asked, Expiry, Front, Offered, Reported};
 use std::alloc::{AllocError, Global};
@@ -69,16 +70,10 @@ pub struct PlainBook {
 }
 
 impl PlainBook {
-    /// A book with one open node.
-    pub fn new(
-        alloc: Global,
-        fixed: Option<(u32, u32)>,
-        best: u64,
-        budget: u32,
-        gap: u64,
-    ) -> Result<PlainBook, AllocError> {
+    /// A book with one open node, and the tour that books begin with.
+    pub fn new(alloc: Global, start: &Start) -> Result<PlainBook, AllocError> {
         let mut path = Vec::new(alloc);
-        if let Some((u, v)) = fixed {
+        if let Some((u, v)) = start.fixed {
             path.push(Told::Fixed(u, v))?;
         }
         let mut nodes = Vec::new(alloc);
@@ -88,13 +83,13 @@ impl PlainBook {
             key: 0,
         })?;
         Ok(PlainBook {
-            fixed,
+            fixed: start.fixed,
             nodes,
             leases: Vec::new(alloc),
-            best,
+            best: tour_length(&OPENING),
             settled: 0,
-            budget,
-            gap,
+            budget: start.budget,
+            gap: start.gap,
         })
     }
 

@@ -3,6 +3,7 @@ ghost use Rattle.std.specs.Prelude.{◌<◌, ◌≤◌};
 
 use crate::book::Said;
 use crate::duals::Duals;
+use crate::starts::Start;
 
 /// Numbers that look drawn.
 #[derive(Drop)]
@@ -121,5 +122,19 @@ impl Draw {
             cities.swap(k, other);
         }
         cities
+    }
+
+    /// What a book begins with: a fixed pair in one case of three, and a small budget.
+    pub fn start(&mut self) -> Start {
+        Start {
+            fixed: if self.one_of(3) { Some((0, 2)) } else { None },
+            budget: self.below(60),
+            gap: match self.below(4) {
+                0 => 0,
+                1 => 1,
+                2 => 3,
+                _ => 60,
+            },
+        }
     }
 }

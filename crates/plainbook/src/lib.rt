@@ -4,7 +4,7 @@
 //!
 //! - [`PlainBook`] has the book; [`Said`], [`Duals`], [`Told`] are what is said of nodes and what leads to them.
 //! - [`five_points`] and [`boss`] make the real boss that begins as the book does, with the tour [`OPENING`].
-//! - [`Draw`] draws reports, tours and leases.
+//! - [`Draw`] draws reports, tours, leases, and what a book begins with, a [`Start`].
 #![tactic(auto)]
 
 mod book;
@@ -16,7 +16,7 @@ mod tours;
 pub use book::{Fate, PlainBook, PlainLease, PlainNode, Said};
 pub use draws::Draw;
 pub use duals::{CITIES, Duals, POINTS, Told, holds, number, tour_length};
-pub use starts::{OPENING, StartError, boss, five_points};
+pub use starts::{OPENING, Start, StartError, boss, five_points};
 
 #[cfg(test)]
 mod tests;

@@ -16,6 +16,17 @@ use tspinst::{FixError, Instance, from_points};
 /// The tour that a book begins with. It has the pair 0 and 2, which some of the instances fix.
 pub const OPENING: [u32; 5] = [0, 2, 1, 3, 4];
 
+/// What a boss and a plain book begin with, beside their grunts.
+#[derive(Clone, Copy, Debug, PartialEq, Eq)]
+pub struct Start {
+    /// The pair that each tour has, if there is one.
+    pub fixed: Option<(u32, u32)>,
+    /// How many nodes may be settled.
+    pub budget: u32,
+    /// How much longer than the shortest the best tour may be in the end.
+    pub gap: u64,
+}
+
 /// Why there is no boss of the kind.
 #[derive(Clone, Copy, Debug, PartialEq, Eq)]
 pub enum StartError {
@@ -96,11 +107,10 @@ fn is_tour_of(instance: &Instance, tour: &Tour) -> bool
 pub fn boss(
     alloc: Global,
     instance: &Instance,
-    budget: u32,
+    start: &Start,
     grunts: u32,
-    gap: u64,
 ) -> Result<Boss, StartError> {
-    if budget > 500_000 || grunts < 1 || grunts > 64 {
+    if start.budget > 500_000 || grunts < 1 || grunts > 64 {
         return Err(StartError::NoStart);
     }
     let best = Tour::new(alloc, 5, Vec::from_slice(alloc, &OPENING)?)?;
@@ -108,5 +118,5 @@ pub fn boss(
         return Err(StartError::NoStart);
     }
     let tree = Tree::with_fixed(alloc, instance.n(), instance.fixed())?;
-    Ok(Boss::start(alloc, instance, tree, best, budget, grunts, gap)?)
+    Ok(Boss::start(alloc, instance, tree, best, start.budget, grunts, start.gap)?)
 }

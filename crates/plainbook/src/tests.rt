@@ -1,4 +1,8 @@
-//! The boss beside the plain book.
+//! The boss beside the plain book, by calls and by tapes.
 
 mod acts;
 mod drawn;
+mod frames;
+mod spoken;
+mod tapes;
+mod texts;

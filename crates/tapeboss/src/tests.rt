@@ -1,5 +1,7 @@
 //! Worked tapes.
 
+mod changed;
+mod refusals;
 mod squares;
 
 use self::squares::{answers, answers_by_bytes, text};

@@ -1,15 +1,17 @@
 //! Rounds in threads, by the plain worker.
-ghost use Rattle.std.specs.Prelude.{◌≡◌, ◌+◌, ◌*◌, ◌≤◌, length, IfOk};
+ghost use Rattle.std.specs.Prelude.{◌≡◌, ◌+◌, ◌*◌, ◌^◌, ◌<◌, ◌≤◌, false, length, IfOk};
 ghost use Rattle.std.specs.Arc.{arc_value};
-ghost use Rattle.worker.specs.Splits.{IsNeededSplit};
+ghost use Rattle.worker.specs.Splits.{IsNeededSplit, needed_splits_stay};
+ghost use Rattle.worker.specs.Works.{BeginsAt, SplitsOnly};
 ghost use Rattle.tspround.specs.Alone.{IsSplitBy};
 
 use crate::{Round, nothing_is_split_at_the_start, rounds};
 use bossx::Boss;
-use cutpool::SharedPool;
+use branchx::Path;
+use cutpool::{CutBox, SharedPool};
 use cyc::Tour;
 use distx::{Kind, Point as Place};
-use neigh::nearest;
+use neigh::{Neigh, nearest};
 use ports::{Fate, Gate, OpenGate, PlainPosts, Point, Posts};
 use std::alloc::{AllocError, Global};
 use std::sync::atomic::{AtomicU64, Ordering};
@@ -19,7 +21,7 @@ use std::thread;
 use std::thread::Threads;
 use treebook::Tree;
 use tspinst::{Instance, from_points};
-use worker::PlainWorker;
+use worker::{PlainWorker, Work, Worker, work_plainly};
 
 /// So often a grunt that waits for another looks for it.
 const LOOKS: u32 = 10_000_000;
@@ -102,6 +104,84 @@ impl Gate for Meeting {
     }
 }
 
+/// A plain worker whose first work below the root waits until another work is going on.
+#[derive(Drop)]
+struct Together {
+    first: AtomicU64,
+    at_work: AtomicU64,
+    met: AtomicU64,
+    missed: AtomicU64,
+}
+
+impl Together {
+    fn new() -> Together {
+        Together {
+            first: AtomicU64::new(0),
+            at_work: AtomicU64::new(0),
+            met: AtomicU64::new(0),
+            missed: AtomicU64::new(0),
+        }
+    }
+
+    /// Comes to work; the first waits for another.
+    fn come(&self) {
+        if self.at_work.fetch_add(1, Ordering::SeqCst) != 0 {
+            self.met.store(1, Ordering::SeqCst);
+        }
+        if self.first.fetch_add(1, Ordering::SeqCst) == 0 && !self.is_met() {
+            self.missed.store(1, Ordering::SeqCst);
+        }
+    }
+
+    fn go(&self) {
+        self.at_work.fetch_sub(1, Ordering::SeqCst);
+    }
+
+    /// Whether another came before the looks ran out.
+    fn is_met(&self) -> bool {
+        for _ in 0..LOOKS {
+            if self.met.load(Ordering::SeqCst) != 0 {
+                return true;
+            }
+            thread::yield_now();
+        }
+        false
+    }
+}
+
+impl Worker for Together {
+    ghost splits = { IsNeededSplit };
+
+    ghost sure = { false };
+
+    ghost splits_stay = { needed_splits_stay };
+
+    fn work<B: CutBox>(
+        &self,
+        alloc: Global,
+        instance: &Instance,
+        _near: &Neigh,
+        _shared: &mut B,
+        path: &Path,
+        best: u64,
+        _seed: u64,
+        gap: u64,
+    ) -> Result<Work, AllocError>
+        requires cities { path.now.n ≡ instance.now.n }
+        requires begins { BeginsAt instance.now path.now.conditions }
+        requires short { best < 2 ^ 42 }
+        ensures splits { IfOk result (λ w. SplitsOnly IsNeededSplit instance.now path.now.conditions best w.report gap) }
+    {
+        if path.conditions().is_empty() {
+            return work_plainly(alloc, instance, path, best, gap);
+        }
+        self.come();
+        let work = work_plainly(alloc, instance, path, best, gap);
+        self.go();
+        work
+    }
+}
+
 /// The four corners of a square of side 10.
 fn square(alloc: Global) -> Result<Instance, AllocError> {
     let corners = [
@@ -167,6 +247,22 @@ fn play<R: Threads + Wait + Sync, P: Posts + Sync, G: Gate + Sync>(
         gate,
         1,
         0,
+    )?)
+}
+
+/// One round of two grunts whose work is to go on at once, on the square.
+fn play_together<R: Threads + Wait + Sync>(
+    rt: &R,
+    alloc: Global,
+    worker: &Together,
+) -> Result<Round, Fail> {
+    let square = square(alloc)?;
+    let near = nearest(alloc, &square, 2)?;
+    let boss = begin(alloc, &square, 200, 2)?;
+    let pool = SharedPool::new(alloc, square.n())?;
+    let shared = Arc::new(alloc, square)?;
+    Ok(rounds(
+        rt, alloc, boss, &pool, shared, &near, worker, &OPEN, &OpenGate, 1, 0,
     )?)
 }
 
@@ -263,6 +359,16 @@ fn two_grunts_meet_before_work(rt: HostRuntime) -> Result<(), Fail> {
     let round = play(&rt, rt.alloc(), 200, 2, &OPEN, &gate)?;
     assert_eq!(rt; gate.missed.load(Ordering::SeqCst), 0);
     assert_eq!(rt; gate.met.load(Ordering::SeqCst), 1);
+    assert_eq!(rt; round.boss.best_length(), 40);
+    Ok(())
+}
+
+#[test]
+fn two_grunts_work_at_once(rt: HostRuntime) -> Result<(), Fail> {
+    let worker = Together::new();
+    let round = play_together(&rt, rt.alloc(), &worker)?;
+    assert_eq!(rt; worker.missed.load(Ordering::SeqCst), 0);
+    assert_eq!(rt; worker.met.load(Ordering::SeqCst), 1);
     assert_eq!(rt; round.boss.best_length(), 40);
     Ok(())
 }

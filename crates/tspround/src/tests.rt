@@ -312,7 +312,7 @@ impl Gate for Counting {
     fn pass(&self, _grunt: u32, _lease: u32, _point: Place) {}
 
     fn stands(&self, best: u64, open: u32, settled: u32, least_key: Option<i64>) {
-        let is_known = best == 40 && (open == 0) == least_key.is_none();
+        let is_known = best == 48 && (open == 0) == least_key.is_none();
         self.told.fetch_add(u64::from(is_known), Ordering::SeqCst);
         let before = self.settled.load(Ordering::SeqCst);
         self.settled.store(

@@ -3,8 +3,7 @@
 
 use super::acts::{reply, tour};
 use crate::{
-    Draw, Duals, Fate, OPENING, PlainBook, Said, Told, boss, five_points, holds, number,
-    tour_length,
+    Draw, Duals, Fate, PlainBook, Said, Start, Told, boss, five_points, holds, number, tour_length,
 };
 use bossx::{Asked, Boss, Brought, Event, Expiry, Front, Offered, Reply, Reported};
 use branchx::{Branch, Cond, Path};
@@ -353,27 +352,6 @@ fn same_paths(alloc: Global, boss: &Boss, plain: &PlainBook) -> Result<bool, Fai
     Ok(true)
 }
 
-/// What a list begins with.
-#[derive(Drop)]
-struct Start {
-    fixed: Option<(u32, u32)>,
-    budget: u32,
-    gap: u64,
-}
-
-fn draw_start(draw: &mut Draw) -> Start {
-    Start {
-        fixed: if draw.one_of(3) { Some((0, 2)) } else { None },
-        budget: draw.below(60),
-        gap: match draw.below(4) {
-            0 => 0,
-            1 => 1,
-            2 => 3,
-            _ => 60,
-        },
-    }
-}
-
 /// The boss and the plain book side by side.
 #[derive(Drop)]
 struct Both {
@@ -390,9 +368,8 @@ fn pair_of(alloc: Global, fixed: Option<(u32, u32)>) -> Result<Pair, Fail> {
 
 fn both_of(alloc: Global, start: &Start) -> Result<Both, Fail> {
     let pair = pair_of(alloc, start.fixed)?;
-    let boss = boss(alloc, &pair.own, start.budget, 3, start.gap)?;
-    let length = tour_length(&OPENING);
-    let plain = PlainBook::new(alloc, start.fixed, length, start.budget, start.gap)?;
+    let boss = boss(alloc, &pair.own, start, 3)?;
+    let plain = PlainBook::new(alloc, start)?;
     Ok(Both { boss, plain, pair })
 }
 
@@ -428,7 +405,7 @@ impl Both {
 /// Plays a list from a start of its own. Whether both went the same way.
 fn plays_alike(alloc: Global, list: u32, tally: &mut Tally) -> Result<bool, Fail> {
     let mut draw = Draw::new(list);
-    let mut both = both_of(alloc, &draw_start(&mut draw))?;
+    let mut both = both_of(alloc, &draw.start())?;
     if both.first_difference(alloc, &mut draw, tally)?.is_some() {
         return Ok(false);
     }

@@ -62,11 +62,11 @@ pub(super) fn tape_for(
     Ok(Tape::new(alloc, boss))
 }
 
-/// A tape for the square with its shortest tour, a budget of 1 and two grunts.
-fn square_tape(alloc: Global) -> Result<Tape, Fail> {
+/// A tape for the square with its shortest tour, a budget and two grunts.
+fn square_tape(alloc: Global, budget: u32) -> Result<Tape, Fail> {
     let instance = square(alloc)?;
     let best = Tour::identity(alloc, 4)?;
-    tape_for(alloc, &instance, best, 1, 2)
+    tape_for(alloc, &instance, best, budget, 2)
 }
 
 /// What is told at the end.
@@ -97,18 +97,33 @@ fn play_by_bytes(
     tape.finish(alloc, out)
 }
 
-/// What the square's boss answers to a tape.
-pub(super) fn answers(alloc: Global, bytes: &[u8]) -> Result<Told, Fail> {
+/// What the square's boss answers to a tape, within a budget.
+pub(super) fn answers_within(alloc: Global, budget: u32, bytes: &[u8]) -> Result<Told, Fail> {
     let mut lines = Vec::new(alloc);
-    let fault = fault_of(play(alloc, square_tape(alloc)?, bytes, &mut lines))?;
+    let fault = fault_of(play(alloc, square_tape(alloc, budget)?, bytes, &mut lines))?;
     Ok(Told { lines, fault })
 }
 
 /// The same, byte by byte.
-pub(super) fn answers_by_bytes(alloc: Global, bytes: &[u8]) -> Result<Told, Fail> {
+pub(super) fn answers_by_bytes_within(
+    alloc: Global,
+    budget: u32,
+    bytes: &[u8],
+) -> Result<Told, Fail> {
     let mut lines = Vec::new(alloc);
-    let fault = fault_of(play_by_bytes(alloc, square_tape(alloc)?, bytes, &mut lines))?;
+    let tape = square_tape(alloc, budget)?;
+    let fault = fault_of(play_by_bytes(alloc, tape, bytes, &mut lines))?;
     Ok(Told { lines, fault })
+}
+
+/// What is answered within a budget of 1.
+pub(super) fn answers(alloc: Global, bytes: &[u8]) -> Result<Told, Fail> {
+    answers_within(alloc, 1, bytes)
+}
+
+/// The same, byte by byte.
+pub(super) fn answers_by_bytes(alloc: Global, bytes: &[u8]) -> Result<Told, Fail> {
+    answers_by_bytes_within(alloc, 1, bytes)
 }
 
 /// A tape of one frame: a kind with its number, if any, and a text.
