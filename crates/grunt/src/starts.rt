@@ -19,9 +19,6 @@ use std::alloc::{AllocError, Global};
 use std::sync::Arc;
 use tspinst::Instance;
 
-#[cfg(test)]
-pub(crate) mod drawn;
-
 /// How many cuts a node begins with at most.
 const MANY: usize = 65_536;
 

@@ -3,9 +3,8 @@ ghost use Rattle.std.specs.Prelude.{◌≤◌, true, false};
 
 use crate::LpWorker;
 use crate::starts::Start;
-use crate::starts::drawn::drawn_start;
 use crate::work::work_from;
-use branchx::{Branch, Cond, Path};
+use branchx::{Cond, Path};
 use cutform::{Cut, Kind as CutKind};
 use cutpool::{CutBox, CutPool, NoCuts};
 use cyc::{CitySet, Frac};
@@ -13,7 +12,7 @@ use distx::{Kind, Point};
 use neigh::nearest;
 use nodelp::NodeLp;
 use ports::{MemDesk, Room};
-use pricer::{Fit, Report, bound, fits, needed};
+use pricer::{Fit, Report, bound, fits};
 use std::alloc::{AllocError, Global};
 use std::process::Abort;
 use std::test::Fail;
@@ -331,32 +330,6 @@ fn left_at_root(rt: &impl Abort, alloc: Global, instance: &Instance) -> Result<S
     Ok(Start::of(alloc, &node, 1 << 40)?)
 }
 
-/// What a worker does at the root with a start.
-fn started_work(
-    rt: &impl Abort,
-    alloc: Global,
-    instance: &Instance,
-    best: u64,
-    start: &Start,
-) -> Result<Work, Fail> {
-    assert!(rt; instance.n() > 3);
-    assert!(rt; best < 1 << 42);
-    let near = nearest(alloc, instance, 3)?;
-    let path = root_path(alloc, instance)?;
-    let (work, _) = work_from(
-        alloc,
-        instance,
-        &near,
-        &mut NoCuts,
-        &path,
-        best,
-        1,
-        0,
-        Some(start),
-    )?;
-    Ok(work)
-}
-
 /// A start of the petersen graph names cities that a prism lacks, and rows and a basis of another program.
 #[test]
 fn a_start_of_another_node_costs_time_alone(rt: HostRuntime) -> Result<(), Fail> {
@@ -364,73 +337,21 @@ fn a_start_of_another_node_costs_time_alone(rt: HostRuntime) -> Result<(), Fail>
     let other = told(alloc, PETERSEN)?;
     let start = left_at_root(&rt, alloc, &other)?;
     let instance = told(alloc, PRISM)?;
-    let work = started_work(&rt, alloc, &instance, 4, &start)?;
+    assert!(rt; instance.n() > 3);
+    let near = nearest(alloc, &instance, 3)?;
+    let path = root_path(alloc, &instance)?;
+    let (work, _) = work_from(
+        alloc,
+        &instance,
+        &near,
+        &mut NoCuts,
+        &path,
+        4,
+        1,
+        0,
+        Some(&start),
+    )?;
     assert!(rt; closes_above(&rt, alloc, &instance, &work, 3 << 20)?);
-    Ok(())
-}
-
-/// Whether work on the root, where tours of a length are known, is what its clauses say: a closing that fits is worth more than that
-/// length needs and has no reason; a split is by a pair of cities or a set, for a reason.
-fn is_as_promised(
-    rt: &impl Abort,
-    alloc: Global,
-    instance: &Instance,
-    work: &Work,
-    best: u64,
-) -> Result<bool, Fail> {
-    match &work.report {
-        Report::Closed(_) => {
-            let closes = closes_above(rt, alloc, instance, work, needed(best))?;
-            Ok(closes && work.why.is_none())
-        }
-        Report::Split(Branch::Edge(u, v)) => {
-            Ok(*u < *v && *v < instance.n() && work.why.is_some())
-        }
-        Report::Split(Branch::Clique(set)) => Ok(set.n() == instance.n() && work.why.is_some()),
-    }
-}
-
-/// Whether work with a drawn start is as promised, and closes or splits the root as work without one does.
-fn lying_start_is_harmless(
-    rt: &impl Abort,
-    alloc: Global,
-    instance: &Instance,
-    best: u64,
-    seed: u64,
-) -> Result<bool, Fail> {
-    assert!(rt; instance.n() > 3 && instance.n() < 100);
-    let start = drawn_start(alloc, instance.n(), seed)?;
-    let work = started_work(rt, alloc, instance, best, &start)?;
-    let other = root_work(rt, alloc, &LpWorker::new(alloc), instance, best)?;
-    let is_alike = (work.effort.closed, work.effort.split, work.hint)
-        == (other.effort.closed, other.effort.split, other.hint);
-    Ok(is_alike && is_as_promised(rt, alloc, instance, &work, best)?)
-}
-
-/// How many of four drawn starts are harmless at the root of an instance.
-fn harmless_starts(rt: &impl Abort, alloc: Global, text: &[u8], best: u64) -> Result<u32, Fail> {
-    let instance = told(alloc, text)?;
-    let mut count: u32 = 0;
-    for seed in 0..4u64 {
-        if lying_start_is_harmless(rt, alloc, &instance, best, seed)? {
-            count = count.wrapping_add(1);
-        }
-    }
-    Ok(count)
-}
-
-#[test]
-fn starts_that_lie_close_what_is_closed_without(rt: HostRuntime) -> Result<(), Fail> {
-    let alloc = rt.alloc();
-    assert_eq!(rt; harmless_starts(&rt, alloc, PRISM, 4)?, 4);
-    assert_eq!(rt; harmless_starts(&rt, alloc, GROUPS, 24)?, 4);
-    Ok(())
-}
-
-#[test]
-fn starts_that_lie_split_what_is_split_without(rt: HostRuntime) -> Result<(), Fail> {
-    let alloc = rt.alloc();
-    assert_eq!(rt; harmless_starts(&rt, alloc, PETERSEN, 11)?, 4);
     Ok(())
 }
 
