@@ -62,8 +62,12 @@ left() {
     *) true ;;
     esac
 }
-# whether nothing was taken: no text, no proof, and slots that still hold their body
+# whether nothing was taken: no text (of a tape, which is answered as it is read, a front of the lines), no proof, and slots that still hold their body
 nothing() {
+    if [ "$1" = replay ]; then
+        [[ "$answer" == "${text%status 9}"* ]]
+        return
+    fi
     [ "$text" = "status 9" ] && [ ! -s "$work/at/proof" ] && [ ! -s "$work/at/certificate" ] &&
         { [ "$1" != resume ] || cmp -s "$work/stopped.0" "$work/at/restart.0"; }
 }
