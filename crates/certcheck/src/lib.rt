@@ -27,10 +27,3 @@ pub use checking::check;
 pub use part::Part;
 pub use resuming::{Body, read_body};
 pub use sizes::Sizes;
-
-#[cfg(test)]
-mod checker_tests;
-#[cfg(test)]
-mod form_tests;
-#[cfg(test)]
-mod tests;

@@ -24,6 +24,3 @@ pub use laws::{tables_fit, written_is_faithful};
 pub use output::write;
 pub use reader::Reader;
 pub use text::body;
-
-#[cfg(test)]
-mod tests;

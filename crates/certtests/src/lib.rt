@@ -18,6 +18,3 @@ pub use cuts::{comb, odd, subtour};
 pub use leaves::{closes, closes_in_place, closing_if_enough, names_clique};
 pub use sets::{city_set, is_proper};
 pub use tours::{canonical_tour, has_length};
-
-#[cfg(test)]
-mod tests;

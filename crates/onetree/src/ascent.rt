@@ -72,6 +72,10 @@ fn zero_duals(alloc: Global, instance: &Instance) -> Result<Vec<i64>, AllocError
 }
 
 /// Duals of proposals: what is missing is 0, and each has the size of a dual.
+///
+/// # Errors
+///
+/// Where memory ran out.
 pub fn sized(alloc: Global, instance: &Instance, proposed: &[i64]) -> Result<Vec<i64>, AllocError>
     ensures { IfOk result (λ p. AreDuals instance.now.n p.items) }
 {

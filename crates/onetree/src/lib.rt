@@ -2,7 +2,7 @@
 //!
 //! - [`least_tree`] gives a one-tree for some duals than which no one-tree is lighter.
 //! - [`held_karp`] gives the value of some duals, and [`proved_length`] the length that no tour is below then.
-//! - [`ascend`] gives duals of a high value.
+//! - [`ascend`] gives duals of a high value, and [`sized`] makes duals of any proposals.
 //! - [`bound_of`] gives the greatest bound that some duals prove.
 //! - [`write`] writes the certificate of some duals and the greatest bound that they prove.
 //! - [`check`] judges a certificate.
@@ -24,13 +24,10 @@ mod value;
 mod writing;
 
 pub use answer::{Answer, CheckError};
-pub use ascent::ascend;
+pub use ascent::{ascend, sized};
 pub use checking::check;
 pub use error::WriteError;
 pub use laws::{answers_are_one, tours_are_one_trees, written_is_accepted};
 pub use tree::{OneTree, least_tree};
 pub use value::{held_karp, proved_length};
 pub use writing::{bound_of, write};
-
-#[cfg(test)]
-mod tests;

@@ -9,6 +9,3 @@ mod reading;
 pub use error::ReadError;
 pub use laws::{bodies_are_read, bodies_have_one_reading};
 pub use reading::read;
-
-#[cfg(test)]
-mod tests;

@@ -19,10 +19,3 @@ pub use arguments::command_words;
 pub use reading::{Reading, Unread, read_instance, refuse};
 pub use running::{run_verify, verify};
 pub use statuses::VerifyStatus;
-
-#[cfg(test)]
-mod table_tests;
-#[cfg(test)]
-mod tests;
-#[cfg(test)]
-mod within_tests;

@@ -1,9 +1,9 @@
 //! Texts that are refused, each with the refusal and the line that the grammar gives it by hand.
 
-use crate::VerifyStatus;
-use crate::tests::{HEAD, PROOF, SQUARE, verified, with_line};
+use crate::runs::{HEAD, PROOF, SQUARE, verified, with_line};
 use std::alloc::{AllocError, Global};
 use std::test::Fail;
+use verification::VerifyStatus;
 
 /// What the verifier prints for the square and a proof.
 pub(crate) fn printed(alloc: Global, proof: &str) -> Result<String, AllocError> {

@@ -2,7 +2,7 @@
 
 ghost use Rattle.std.specs.Prelude.{◌<◌};
 
-use crate::{Answer, CheckError, check};
+use certcheck::{Answer, CheckError, check};
 use distx::{Kind, Point};
 use ports::{Inlet, MemDesk, Room};
 use std::alloc::{AllocError, Global};

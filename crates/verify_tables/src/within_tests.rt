@@ -1,11 +1,11 @@
 //! Texts of the second version, and odd cuts, each with the answer that the grammar gives it by hand.
 
-use crate::VerifyStatus;
+use crate::runs::{PRISM, SQUARE, verified, with_line};
 use crate::table_tests::{printed, printed_for};
-use crate::tests::{PRISM, SQUARE, verified, with_line};
 use ports::Inlet;
 use std::alloc::{AllocError, Global};
 use std::test::Fail;
+use verification::VerifyStatus;
 
 /// No tour of the square is shorter than 0.
 const WITHIN: &str = "TSPCERT 2\nN 4\nLENGTH 40\nBOUND 0\nTOUR 1 2 3 4\nCUTS 0\nL 0 0 0\n";

@@ -3,7 +3,7 @@
 ghost use Rattle.std.specs.Prelude.{◌<◌, ◌≤◌, length};
 
 use crate::tests::{DUALS, HEAD, shortest, square};
-use crate::{Answer, Checker, Sizes, Trouble};
+use certcheck::{Answer, Checker, Sizes, Trouble};
 use std::alloc::Global;
 use std::test::Fail;
 use tspinst::Instance;

@@ -7,8 +7,8 @@ mod values;
 
 ghost use Rattle.std.specs.Prelude.{◌≡◌, IfOk};
 
-use crate::{Answer, WriteError, ascend, check, write};
 use distx::{Kind, Point};
+use onetree::{Answer, WriteError, ascend, check, write};
 use ports::{MemDesk, Room};
 use std::alloc::Global;
 use std::test::Fail;

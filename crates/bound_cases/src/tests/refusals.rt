@@ -1,7 +1,7 @@
 //! Every way in which a certificate is refused, and the texts beside it that are accepted.
 
 use super::{answer_of, prism, square};
-use crate::Answer;
+use onetree::Answer;
 use std::alloc::Global;
 use std::test::Fail;
 use tspinst::Instance;

@@ -1,8 +1,8 @@
 //! The lines of both versions of a text, with each bound of form at, below and above its limit. The instance is the square.
 
-use crate::Answer;
 use crate::checker_tests::in_pieces;
 use crate::tests::{DUALS, HEAD, shortest, square};
+use certcheck::Answer;
 use std::alloc::Global;
 use std::test::Fail;
 

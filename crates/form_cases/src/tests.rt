@@ -1,8 +1,8 @@
 //! Worked texts.
 ghost use Rattle.std.specs.Prelude.{◌≡◌, ◌≤◌, length, IfOk};
 
-use crate::{Item, LineError, Reader, WriteError, body, write};
 use branchx::Branch;
+use certform::{Item, LineError, Reader, WriteError, body, write};
 use cutform::Cut;
 use cyc::{CitySet, Tour};
 use distx::{Kind, Point};

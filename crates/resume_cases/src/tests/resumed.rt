@@ -107,7 +107,7 @@ fn the_tree_has_the_fixed_pairs(rt: HostRuntime) -> Result<(), Fail> {
     let alloc = rt.alloc();
     let crossed = square(alloc)?.fix(alloc, &[(0, 2)])?;
     let text = "TSPCERT 1\nN 4\nLENGTH 48\nTOUR 1 2 4 3\nCUTS 0\nO\n";
-    match crate::read(alloc, &crossed, text.as_bytes(), 0, 0) {
+    match resume_form::read(alloc, &crossed, text.as_bytes(), 0, 0) {
         Ok((tree, _)) => assert_eq!(rt; tree.fixed(), [(0u32, 2u32)].as_slice()),
         Err(_) => return Err("the body was not read".into()),
     }

@@ -1,9 +1,8 @@
 //! Duals that are raised: how good they are, and that they are at rest where they are not raised far.
 
 use super::of_points;
-use crate::ascent::sized;
-use crate::{ascend, held_karp};
 use distx::Point;
+use onetree::{ascend, held_karp, sized};
 use std::alloc::Global;
 use std::test::Fail;
 use tspinst::Instance;

@@ -1,7 +1,7 @@
 //! Certificates, written and checked.
 
 use super::{answer_of, certificate_of, desk, prism, square, written};
-use crate::{Answer, CheckError, WriteError, check};
+use onetree::{Answer, CheckError, WriteError, check};
 use std::alloc::Global;
 use std::test::Fail;
 use tspinst::Instance;

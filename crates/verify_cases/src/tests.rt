@@ -2,33 +2,33 @@
 
 ghost use Rattle.std.specs.Prelude.{◌<◌};
 
-use crate::{VerifyStatus, command_words, run_verify};
 use ports::{Inlet, MemDesk, Room};
 use std::alloc::{AllocError, Global};
 use std::env::FillError;
 use std::rt::Env;
 use std::test::Fail;
+use verification::{VerifyStatus, command_words, run_verify};
 
-pub(crate) const SQUARE: &str =
+const SQUARE: &str =
     "NAME : square\nTYPE : TSP\nDIMENSION : 4\nEDGE_WEIGHT_TYPE : EUC_2D\nNODE_COORD_SECTION\n1 0 0\n2 0 10\n3 10 10\n4 10 0\nEOF\n";
 
-pub(crate) const PRISM: &str =
+const PRISM: &str =
     "NAME : prism\nTYPE : TSP\nDIMENSION : 6\nEDGE_WEIGHT_TYPE : EXPLICIT\nEDGE_WEIGHT_FORMAT : UPPER_ROW\nEDGE_WEIGHT_SECTION\n1 1 0 100 100\n1 100 0 100\n100 100 0\n1 1\n1\nEOF\n";
 
-pub(crate) const GROUPS: &str =
+const GROUPS: &str =
     "NAME : groups\nTYPE : TSP\nDIMENSION : 6\nEDGE_WEIGHT_TYPE : EXPLICIT\nEDGE_WEIGHT_FORMAT : UPPER_ROW\nEDGE_WEIGHT_SECTION\n1 1 10 10 10\n1 10 10 10\n10 10 10\n1 1\n1\nEOF\n";
 
 /// The square's first five lines.
-pub(crate) const HEAD: &str = "TSPCERT 1\nN 4\nLENGTH 40\nTOUR 1 2 3 4\nCUTS 0\n";
+const HEAD: &str = "TSPCERT 1\nN 4\nLENGTH 40\nTOUR 1 2 3 4\nCUTS 0\n";
 
 /// The square's proof of four duals.
-pub(crate) const PROOF: &str =
+const PROOF: &str =
     "TSPCERT 1\nN 4\nLENGTH 40\nTOUR 1 2 3 4\nCUTS 0\nL 4 0 0\nP 1 5242880\nP 2 5242880\nP 3 5242880\nP 4 5242880\n";
 
-pub(crate) const PRISM_PROOF: &str =
+const PRISM_PROOF: &str =
     "TSPCERT 1\nN 6\nLENGTH 4\nTOUR 1 2 3 6 5 4\nCUTS 1\nC 3\nH 3 1 2 3\nT 2 1 4\nT 2 2 5\nT 2 3 6\nL 6 1 0\nP 1 -524288\nP 2 -524288\nP 3 -524288\nP 4 -524288\nP 5 -524288\nP 6 -524288\nY 1 1048576\n";
 
-pub(crate) const GROUPS_PROOF: &str =
+const GROUPS_PROOF: &str =
     "TSPCERT 1\nN 6\nLENGTH 24\nTOUR 1 2 3 4 5 6\nCUTS 1\nS 3 1 2 3\nK 3 1 2 3\nL 6 1 0\nP 1 524288\nP 2 524288\nP 3 524288\nP 4 524288\nP 5 524288\nP 6 524288\nY 1 9437184\nL 6 0 1\nP 1 524288\nP 2 524288\nP 3 524288\nP 4 524288\nP 5 524288\nP 6 524288\nZ 1 9437184\n";
 
 const ROOM: Room = Room {
@@ -57,9 +57,9 @@ const NONE: Faults<'static> = Faults {
 
 /// A run that has ended.
 #[derive(Drop)]
-pub(crate) struct Ended {
-    pub status: VerifyStatus,
-    pub desk: MemDesk,
+struct Ended {
+    status: VerifyStatus,
+    desk: MemDesk,
 }
 
 fn words(alloc: Global, line: &str) -> Result<Vec<String>, AllocError> {
@@ -108,17 +108,12 @@ fn run_with(
 }
 
 /// Runs the verifier on an instance's text and the bytes of a proof.
-pub(crate) fn verified(alloc: Global, instance: &str, proof: &str) -> Result<Ended, AllocError> {
+fn verified(alloc: Global, instance: &str, proof: &str) -> Result<Ended, AllocError> {
     run_with(alloc, "tspverify a b", instance, proof, &NONE)
 }
 
 /// A text with one line, from 1, in place of another.
-pub(crate) fn with_line(
-    alloc: Global,
-    text: &str,
-    number: usize,
-    line: &str,
-) -> Result<String, AllocError> {
+fn with_line(alloc: Global, text: &str, number: usize, line: &str) -> Result<String, AllocError> {
     let mut changed = format!(in alloc; "")?;
     for (k, old) in text.lines().enumerate() {
         changed.push_str(if k + 1 == number { line } else { old })?;

@@ -3,9 +3,9 @@
 mod refused;
 mod resumed;
 
-use crate::{ReadError, read};
 use cyc::Tour;
 use distx::{Kind, Point};
+use resume_form::{ReadError, read};
 use std::alloc::Global;
 use std::test::Fail;
 use treebook::Tree;

@@ -3,11 +3,11 @@
 ghost use Rattle.std.specs.Prelude.{◌≡◌, ◌≤◌, true, IfOk};
 ghost use Rattle.certdef.specs.Items.{is_set};
 
-use crate::{
+use branchx::{Cond, Path};
+use certtests::{
     canonical_tour, city_set, closes, closes_in_place, comb, has_length, is_proper, names_clique,
     odd, subtour,
 };
-use branchx::{Cond, Path};
 use cutform::Kind;
 use cyc::CitySet;
 use distx::{Kind as Rule, Point};

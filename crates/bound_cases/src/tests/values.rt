@@ -1,7 +1,7 @@
 //! One-trees and values.
 
 use super::square;
-use crate::{held_karp, least_tree, proved_length, tours_are_one_trees};
+use onetree::{held_karp, least_tree, proved_length, tours_are_one_trees};
 use std::test::Fail;
 
 #[test]

@@ -1,0 +1,8 @@
+//! One-trees, duals that are raised, and certificates of bounds: written, checked and refused.
+//!
+//! There is nothing to use here. The tests stand beside `onetree` and not in it, so that it is proved once: a crate with tests in it is
+//! proved a second time with them.
+#![tactic(auto)]
+
+#[cfg(test)]
+mod tests;

@@ -1,0 +1,8 @@
+//! Restart bodies that `resume_form` reads, and bodies that it refuses.
+//!
+//! There is nothing to use here. The tests stand beside `resume_form` and not in it, so that it is proved once: a crate with tests in it is
+//! proved a second time with them.
+#![tactic(auto)]
+
+#[cfg(test)]
+mod tests;
