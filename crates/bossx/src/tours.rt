@@ -5,7 +5,7 @@ ghost use Rattle.tspdef.specs.Fixed.{AreSteps};
 ghost use Rattle.bossx.specs.Steps.{IsFirstOff};
 
 /// The first of the pairs that is no step of the tour, without memory: O(n) for each pair.
-pub(crate) fn first_off(cities: &[u32], pairs: &[(u32, u32)]) -> Option<(u32, u32)>
+pub fn first_off(cities: &[u32], pairs: &[(u32, u32)]) -> Option<(u32, u32)>
     ensures { MatchOption result (AreSteps (defs.steps cities.now) pairs.now) (λ p. IsFirstOff (defs.steps cities.now) pairs.now p.0 p.1) }
 {
     for i in 0..pairs.len() {

@@ -21,6 +21,3 @@ mod words;
 
 pub use error::{Fault, TapeError};
 pub use tape::Tape;
-
-#[cfg(test)]
-mod tests;

@@ -27,20 +27,3 @@ mod verifying;
 
 pub use running::run;
 pub use statuses::Status;
-
-#[cfg(test)]
-mod bounds_runs;
-#[cfg(test)]
-mod changed_bytes;
-#[cfg(test)]
-mod failing_calls;
-#[cfg(test)]
-mod fixed_edges;
-#[cfg(test)]
-mod meeting_runs;
-#[cfg(test)]
-mod replay_runs;
-#[cfg(test)]
-mod resumed_runs;
-#[cfg(test)]
-mod tests;

@@ -12,11 +12,7 @@ use tspinst::Instance;
 
 /// A report whose set, if it splits by one, is one of the instance's cities: a boss takes no other, while a worker promises only that
 /// the cities are some of these.
-pub(crate) fn report_over(
-    alloc: Global,
-    instance: &Instance,
-    report: Report,
-) -> Result<Report, AllocError>
+pub fn report_over(alloc: Global, instance: &Instance, report: Report) -> Result<Report, AllocError>
     requires { HasProperSet instance.now.n report }
     ensures { IfOk result (λ r. r ≡ defs.report_over instance.now.n report) }
 {

@@ -1,6 +1,6 @@
 //! What is refused: the order of the faults of one frame, and each rule of the form of a text.
 
-use super::squares::{answers, framed, text};
+use crate::squares::{answers, framed, text};
 use std::alloc::Global;
 use std::test::Fail;
 

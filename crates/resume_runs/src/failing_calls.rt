@@ -1,11 +1,11 @@
 //! Whole runs in which a read, a write, a bind or a call on a slot fails.
 
-use crate::tests::{CROSSED, Faults, NONE, OPEN, ROOM, SQUARE, run_with, solved, words};
-use crate::{Status, run};
+use crate::runs::{CROSSED, Faults, NONE, OPEN, ROOM, SQUARE, run_with, solved, words};
 use ports::{MemDesk, MemSlots, OpenGate, SlotCall};
 use slotstore::Store;
 use std::alloc::Global;
 use std::test::Fail;
+use tspengine::{Status, run};
 
 #[test]
 fn a_failing_save_leaves_the_other_slot(rt: HostRuntime) -> Result<(), Fail> {

@@ -1,10 +1,6 @@
 //! Worked tapes.
 
-mod changed;
-mod refusals;
-mod squares;
-
-use self::squares::{answers, answers_by_bytes, text};
+use crate::squares::{answers, answers_by_bytes, framed, text};
 use std::alloc::Global;
 use std::test::Fail;
 
@@ -115,7 +111,7 @@ fn first_other_text(
 ) -> Result<Option<usize>, Fail> {
     for place in 0..table.len() {
         let (said, line) = table[place];
-        let tape = squares::framed(alloc, head, said)?;
+        let tape = framed(alloc, head, said)?;
         let lines = format!(in alloc; "{before}{line}")?;
         if !is_answered(alloc, &tape, &lines)? {
             return Ok(Some(place));

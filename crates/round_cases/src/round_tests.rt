@@ -5,7 +5,6 @@ ghost use Rattle.worker.specs.Splits.{IsNeededSplit, needed_splits_stay};
 ghost use Rattle.worker.specs.Works.{BeginsAt, SplitsOnly};
 ghost use Rattle.tspround.specs.Alone.{IsSplitBy};
 
-use crate::{Round, nothing_is_split_at_the_start, rounds};
 use bossx::Boss;
 use branchx::Path;
 use cutpool::{CutBox, SharedPool};
@@ -21,6 +20,7 @@ use std::thread;
 use std::thread::Threads;
 use treebook::Tree;
 use tspinst::{Instance, from_points};
+use tspround::{Round, nothing_is_split_at_the_start, rounds};
 use worker::{PlainWorker, Work, Worker, work_plainly};
 
 /// So often a grunt that waits for another looks for it.

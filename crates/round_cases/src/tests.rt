@@ -6,8 +6,6 @@ ghost use Rattle.worker.specs.Splits.{IsNeededSplit, needed_splits_stay};
 ghost use Rattle.worker.specs.Works.{BeginsAt, IsWork, SplitsOnly};
 ghost use Rattle.tspround.specs.Alone.{IsSplitBy};
 
-use crate::sets::report_over;
-use crate::{alone, alone_counted, nothing_is_split_at_the_start};
 use bossx::{Boss, Front};
 use branchx::{Branch, Path};
 use cutpool::{CutBox, NoCuts};
@@ -21,6 +19,7 @@ use std::sync::atomic::{AtomicU64, Ordering};
 use std::test::Fail;
 use treebook::Tree;
 use tspinst::{Instance, from_points};
+use tspround::{alone, alone_counted, nothing_is_split_at_the_start, report_over};
 use worker::{Effort, Work, Worker, work_plainly};
 
 /// The plain worker, which tells its seed as a number of programs.

@@ -1,6 +1,6 @@
 use Rattle.std.proofs.Common.{arith, ◌≡◌, length}
 use Rattle.bossx.proofs.Offering.{tour_of}
-use Rattle.bossx.proofs.tests.acts.is_tour_of.Goals as goal
+use Rattle.boss_cases.proofs.acts.is_tour_of.Goals as goal
 
 pub returns-in-None : goal.returns-in-None
 returns-in-None c =

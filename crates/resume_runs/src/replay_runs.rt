@@ -2,13 +2,13 @@
 
 ghost use Rattle.std.specs.Prelude.{◌<◌};
 
-use crate::tests::{OPEN, ROOM, SQUARE, words};
-use crate::{Status, run};
+use crate::runs::{OPEN, ROOM, SQUARE, words};
 use ports::{Inlet, MemDesk, MemSlots, OpenGate};
 use std::alloc::{AllocError, Global};
 use std::sync::Wait;
 use std::test::Fail;
 use std::thread::Threads;
+use tspengine::{Status, run};
 
 /// Two grunts ask, one is gone and its lease lost, and both report the same split.
 const TWO_GRUNTS: &[u8] =

@@ -1,12 +1,12 @@
 //! Whole runs that go on with what the slots hold, and runs with a gap.
 
-use crate::tests::{CROSSED, OPEN, ROOM, SQUARE, solved, verified, words};
-use crate::{Status, run};
+use crate::runs::{CROSSED, OPEN, ROOM, SQUARE, solved, verified, words};
 use ports::{MemDesk, MemSlots, OpenGate};
 use std::alloc::{AllocError, Global};
 use std::sync::Wait;
 use std::test::Fail;
 use std::thread::Threads;
+use tspengine::{Status, run};
 
 /// Two triangles, and three pairs that join them.
 const PRISM: &str =

@@ -1,9 +1,7 @@
 //! Worked books: tables of events, each with its reply.
 
-mod acts;
-
-use self::acts::{Act, boss_with, first_other, leased, square_boss};
-use crate::{Asked, Boss, Event, Expiry, Front, Offered, Reply, Reported};
+use crate::acts::{Act, boss_with, first_other, leased, square_boss};
+use bossx::{Asked, Boss, Event, Expiry, Front, Offered, Reply, Reported};
 use std::alloc::Global;
 use std::test::Fail;
 

@@ -1,8 +1,8 @@
 //! Whole runs on the square whose cities 1 and 3 each tour joins. Its shortest tour goes along both diagonals.
 
-use crate::Status;
-use crate::tests::{solved, verified};
+use crate::runs::{solved, verified};
 use std::test::Fail;
+use tspengine::Status;
 
 const BRIDGE: &str =
     "NAME : bridge\nTYPE : TSP\nDIMENSION : 4\nEDGE_WEIGHT_TYPE : EUC_2D\nNODE_COORD_SECTION\n1 0 0\n2 0 10\n3 10 10\n4 10 0\nFIXED_EDGES_SECTION\n1 3\n-1\nEOF\n";

@@ -1,10 +1,10 @@
 //! A run in which two grunts meet.
-use crate::tests::{OPEN, ROOM, SQUARE, words};
-use crate::{Status, run};
+use crate::runs::{OPEN, ROOM, SQUARE, words};
 use ports::{Gate, MemDesk, MemSlots, Point};
 use std::sync::atomic::{AtomicU64, Ordering};
 use std::test::Fail;
 use std::thread;
+use tspengine::{Status, run};
 
 /// So often a grunt that waits for another looks for it.
 const LOOKS: u32 = 10_000_000;

@@ -1,10 +1,10 @@
 //! A tape of which one byte is another. It is answered as before up to the frame of that byte, and then to an end or to a fault, which a
 //! plain reader of frames finds too, but for faults of texts.
 
-use super::squares::{Told, answers_by_bytes_within, answers_within, framed, text};
-use crate::Fault;
+use crate::squares::{Told, answers_by_bytes_within, answers_within, framed, text};
 use std::alloc::Global;
 use std::test::Fail;
+use tapeboss::Fault;
 
 /// Frames, as heads and texts, each with the line that is answered: one of each kind, and reports of each kind.
 const WORKED: [(&[u8], &str, &str); 9] = [

@@ -1,22 +1,22 @@
 //! Tapes for a boss over the square, and what they are answered.
-use crate::{Fault, Tape, TapeError};
 use bossx::Boss;
 use cyc::Tour;
 use distx::{Kind, Point};
 use std::alloc::Global;
 use std::test::Fail;
+use tapeboss::{Fault, Tape, TapeError};
 use treebook::Tree;
 use tspinst::{Instance, from_points};
 
 /// What a tape is answered.
 #[derive(Drop)]
-pub(super) struct Told {
+pub(crate) struct Told {
     pub lines: Vec<u8>,
     pub fault: Option<(Fault, u64)>,
 }
 
 /// The lines as a text.
-pub(super) fn text(told: &Told) -> &str {
+pub(crate) fn text(told: &Told) -> &str {
     match std::str::from_utf8(&told.lines) {
         Ok(text) => text,
         Err(_) => "",
@@ -34,7 +34,7 @@ fn square(alloc: Global) -> Result<Instance, Fail> {
 }
 
 /// A tape for a boss over the tree of one open node.
-pub(super) fn tape_for(
+pub(crate) fn tape_for(
     alloc: Global,
     instance: &Instance,
     best: Tour,
@@ -88,14 +88,14 @@ fn play_by_bytes(
 }
 
 /// What the square's boss answers to a tape, within a budget.
-pub(super) fn answers_within(alloc: Global, budget: u32, bytes: &[u8]) -> Result<Told, Fail> {
+pub(crate) fn answers_within(alloc: Global, budget: u32, bytes: &[u8]) -> Result<Told, Fail> {
     let mut lines = Vec::new(alloc);
     let fault = fault_of(play(alloc, square_tape(alloc, budget)?, bytes, &mut lines))?;
     Ok(Told { lines, fault })
 }
 
 /// The same, byte by byte.
-pub(super) fn answers_by_bytes_within(
+pub(crate) fn answers_by_bytes_within(
     alloc: Global,
     budget: u32,
     bytes: &[u8],
@@ -107,17 +107,17 @@ pub(super) fn answers_by_bytes_within(
 }
 
 /// What is answered within a budget of 1.
-pub(super) fn answers(alloc: Global, bytes: &[u8]) -> Result<Told, Fail> {
+pub(crate) fn answers(alloc: Global, bytes: &[u8]) -> Result<Told, Fail> {
     answers_within(alloc, 1, bytes)
 }
 
 /// The same, byte by byte.
-pub(super) fn answers_by_bytes(alloc: Global, bytes: &[u8]) -> Result<Told, Fail> {
+pub(crate) fn answers_by_bytes(alloc: Global, bytes: &[u8]) -> Result<Told, Fail> {
     answers_by_bytes_within(alloc, 1, bytes)
 }
 
 /// A tape of one frame: a kind with its number, if any, and a text.
-pub(super) fn framed(alloc: Global, head: &[u8], text: &str) -> Result<Vec<u8>, Fail> {
+pub(crate) fn framed(alloc: Global, head: &[u8], text: &str) -> Result<Vec<u8>, Fail> {
     let mut tape = Vec::new(alloc);
     let size = (head.len().saturating_add(text.len()) & 0xffff_ffff) as u32;
     tape.extend_from_slice(&size.to_be_bytes())?;

@@ -1,12 +1,12 @@
 //! Whole runs of `bound` and `checkbound` over a desk in memory.
 
-use crate::tests::{Faults, NONE, OPEN, ROOM, SQUARE, run_with, words};
-use crate::{Status, run};
+use crate::runs::{Faults, NONE, OPEN, ROOM, SQUARE, run_with, words};
 use ports::{MemDesk, MemSlots, OpenGate};
 use std::alloc::Global;
 use std::sync::Wait;
 use std::test::Fail;
 use std::thread::Threads;
+use tspengine::{Status, run};
 
 /// Two triangles of sides 1, and three edges of length 0 between them: its shortest tours have length 4, and no one-tree bound exceeds 3.
 const PRISM: &str =

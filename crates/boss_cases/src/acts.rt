@@ -3,8 +3,7 @@ ghost use Rattle.std.specs.Prelude.{IsTrue};
 ghost use Rattle.tspdef.specs.Instances.{IsTourOf};
 ghost use Rattle.bossx.specs.Steps.{IsCall};
 
-use crate::tours::first_off;
-use crate::{Asked, Boss, Brought, Event, Reply};
+use bossx::{Asked, Boss, Brought, Event, Reply, first_off};
 use branchx::{Branch, Path};
 use cyc::Tour;
 use distx::{Kind, Point};
@@ -17,7 +16,7 @@ use tspinst::{Instance, from_points};
 
 /// An event on the square. Duals of cities are all the same.
 #[derive(Clone, Copy)]
-pub(super) enum Act {
+pub(crate) enum Act {
     Ask(u32),
     /// A split for a lease.
     Split(u32, u32, u32),
@@ -94,14 +93,14 @@ fn boss(
 }
 
 /// A boss over the square, with its shortest tour and two grunts.
-pub(super) fn square_boss(alloc: Global, budget: u32, gap: u64) -> Result<Boss, Fail> {
+pub(crate) fn square_boss(alloc: Global, budget: u32, gap: u64) -> Result<Boss, Fail> {
     let instance = square(alloc)?;
     let best = tour(alloc, &[0, 1, 2, 3])?;
     boss(alloc, &instance, best, budget, 2, gap)
 }
 
 /// A boss over the square with fixed pairs, and with this tour.
-pub(super) fn boss_with(
+pub(crate) fn boss_with(
     alloc: Global,
     fixed: &[(u32, u32)],
     cities: [u32; 4],
@@ -112,7 +111,7 @@ pub(super) fn boss_with(
 }
 
 /// A lease of a node where the best tour has length 40.
-pub(super) fn leased(lease: u32, node: u32) -> Reply {
+pub(crate) fn leased(lease: u32, node: u32) -> Reply {
     Reply::Asked(Asked::Leased {
         lease,
         node,
@@ -185,7 +184,7 @@ fn reply(boss: &mut Boss, event: Event) -> Result<Reply, Fail> {
 }
 
 /// Plays a table of events. The place of the first reply that is another one, if there is one.
-pub(super) fn first_other(
+pub(crate) fn first_other(
     alloc: Global,
     boss: &mut Boss,
     table: &[(Act, Reply)],
