@@ -1,0 +1,6 @@
+//! x
+#![tactic(auto)]
+
+mod desk;
+mod last_line;
+pub use desk::KeepingDesk;
