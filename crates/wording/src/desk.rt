@@ -29,6 +29,13 @@ impl<D: Desk + Drop> KeepingDesk<D> {
         })
     }
 
+    /// The desk that the calls are passed on to.
+    pub fn inner(&self) -> &D
+        ensures { result.now ≡ inner_of self.now }
+    {
+        &self.desk
+    }
+
     /// What is kept of the last line that was printed, with the line's end if it reaches to it.
     pub fn last_line(&self) -> &[u8]
         ensures { result.now ≡ (printed_by self.now).bytes }

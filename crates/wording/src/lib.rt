@@ -2,6 +2,7 @@
 //!
 //! - [`KeepingDesk`] is a desk around another: it passes each call on, and keeps a front of the last line that was printed.
 //! - [`explain`] says that line in words, where it is a refusal of its [`Subject`], or what the exit status tells of a fault outside.
+//! - [`tell`] prints that on standard error, where it is a terminal.
 //! - [`TABLES`] has the words of both programs, in `src/table.rt` alone. The man pages and docs/FORMATS.md have the same ones, and
 //!   `bench/words.py` compares them.
 #![tactic(auto)]
@@ -11,8 +12,13 @@ mod explaining;
 mod last_line;
 mod rows;
 mod table;
+mod telling;
 
 pub use desk::KeepingDesk;
 pub use explaining::{Subject, explain};
 pub use rows::{Row, StatusRow, Tables};
 pub use table::TABLES;
+pub use telling::tell;
+
+#[cfg(test)]
+mod tests;
