@@ -1,5 +1,5 @@
 //! A desk around another, that keeps what was printed last.
-ghost use Rattle.std.specs.Prelude.{◌≡◌, ◌<◌, ◌≤◌, ℕ, take, length, Option, IfOk, OnOk, OnErr, IsErr};
+ghost use Rattle.std.specs.Prelude.{◌≡◌, ◌<◌, ◌≤◌, take, length, IfOk, OnOk, OnErr, IsErr};
 
 use crate::last_line::LastLine;
 use ports::{Desk, Failed, Inlet, Outlet};
@@ -15,13 +15,13 @@ pub struct KeepingDesk<D: Desk + Drop> {
 }
 
 impl<D: Desk + Drop> KeepingDesk<D> {
-    ghost use Rattle.std.specs.Prelude.{[], false};
+    ghost use Rattle.wording.specs.LastLine.{nothing};
     ghost use Rattle.wording.specs.Desks.{inner_of, printed_by};
 
     /// A desk around this one. Nothing is kept yet.
     pub fn new(alloc: Global, desk: D) -> Result<KeepingDesk<D>, AllocError>
         ensures inner { IfOk result (λ keeping. inner_of keeping ≡ desk) }
-        ensures printed { IfOk result (λ keeping. printed_by keeping ≡ record { bytes = []; is_ended = false }) }
+        ensures printed { IfOk result (λ keeping. printed_by keeping ≡ nothing) }
     {
         Ok(KeepingDesk {
             desk,
@@ -46,7 +46,7 @@ impl<D: Desk + Drop> KeepingDesk<D> {
 
 impl<D: Desk + Drop> Desk for KeepingDesk<D> {
     ghost use Rattle.ports.specs.Outside.{BothTell, WhereTold, Cause};
-    ghost use Rattle.ports.specs.Desk.{Told, Takes, Adds, IsAtEnd, with_inlet_path, with_outlet_path};
+    ghost use Rattle.ports.specs.Desk.{Takes, Adds, IsAtEnd, with_inlet_path, with_outlet_path};
     ghost use Rattle.wording.specs.Desks.{inner_of, printed_by, with_printed};
 
     ghost told = { λ keeping. D.told (inner_of keeping) };

@@ -16,12 +16,12 @@ pub struct LastLine {
 }
 
 impl LastLine {
-    ghost use Rattle.std.specs.Prelude.{[], false, IfOk};
-    ghost use Rattle.wording.specs.LastLine.{line_of, with_byte, with_bytes};
+    ghost use Rattle.std.specs.Prelude.{IfOk};
+    ghost use Rattle.wording.specs.LastLine.{nothing, line_of, with_byte, with_bytes};
 
     /// That of no text. All the memory is taken here.
     pub fn new(alloc: Global) -> Result<LastLine, AllocError>
-        ensures { IfOk result (λ line. line_of line ≡ record { bytes = []; is_ended = false }) }
+        ensures { IfOk result (λ line. line_of line ≡ nothing) }
     {
         Ok(LastLine {
             bytes: Vec::with_capacity(alloc, MOST)?,
