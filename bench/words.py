@@ -47,7 +47,7 @@ def rows_of_a_man_page(name):
     section = re.search(r"^\.SH REFUSALS\n(.*?)^\.SH ", page, re.M | re.S).group(1)
     for item in section.split(".TP\n")[1:]:
         item = re.sub(r"\\f[BIR]", "", item.split(".PP\n")[0]).replace("\\-", "-")
-        head, words = item.rstrip("\n").split("\n", 1)
+        head, _, words = item.rstrip("\n").partition("\n")
         rows.append((head, words.replace("\n", " ")))
     return rows
 
@@ -60,8 +60,8 @@ def rows_of_the_formats():
         cells = [cell.strip().replace("`", "") for cell in line.strip().strip("|").split("|")]
         if not line.startswith("|") or cells[0] == "printed" or set(cells[0]) <= set("-"):
             continue
-        key, says, todo = cells
-        rows.append((key, says if todo == "-" else f"{says}; {todo}"))
+        key, words = cells[0], [cell for cell in cells[1:] if cell != "-"]
+        rows.append((key, "; ".join(words)))
     return rows
 
 
