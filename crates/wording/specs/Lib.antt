@@ -1,0 +1,4 @@
+pub mod LastLine
+pub mod Desks
+pub mod Rows
+pub mod Explaining
