@@ -41,6 +41,8 @@ impl<'a> Bytes<'a> {
     fn take(&mut self, buf: &mut [u8]) -> usize
         ensures count { result ≡ min (length buf.old) (length self.old.rest.now) }
         ensures moved { self.old.rest.now ≡ take result buf.new ++ self.new.rest.now }
+        ensures binds { self.new.binds_refused ≡ self.old.binds_refused }
+        ensures writes { self.new.writes_refused ≡ self.old.writes_refused }
     {
         let count = buf.len().min(self.rest.len());
         let (front, rest) = self.rest.split_at(count);

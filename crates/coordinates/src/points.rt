@@ -1,5 +1,5 @@
 //! The section of coordinates in the text of an instance.
-ghost use Rattle.std.specs.Prelude.{◌≡◌, ◌≤◌, length, IfOk, IfSome};
+ghost use Rattle.std.specs.Prelude.{◌<◌, ◌≤◌, IfSome};
 
 use distx::{Kind, Point};
 use std::alloc::{AllocError, Global};
@@ -141,7 +141,7 @@ fn points(
 }
 
 /// The section that points of this kind are read from.
-fn section(
+fn section_of(
     alloc: Global,
     lexer: &mut Lexer<'_>,
     kind: Option<Kind>,
@@ -175,7 +175,7 @@ pub(crate) fn find(alloc: Global, bytes: &[u8], n: usize) -> Result<Option<Secti
         if is(name, "EDGE_WEIGHT_TYPE") {
             kind = find_kind(value);
         } else if is(name, "NODE_COORD_SECTION") {
-            return section(alloc, &mut lexer, kind, n);
+            return section_of(alloc, &mut lexer, kind, n);
         } else if is(name, "DISPLAY_DATA_SECTION") {
             pass(&mut lexer, 3 * n);
         } else if is(name, "FIXED_EDGES_SECTION") {

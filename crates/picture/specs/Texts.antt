@@ -1,5 +1,5 @@
 -- The text of a drawing: lines of SVG, in the order in which they are painted.
-use Rattle.std.specs.Prelude.{ℕ, ◌+◌, ◌<◌, nat_lt, if◌then◌else◌, List, [], ◌++◌, length, flat_map, Option, Some, None, slice_index_or, codes, decimal}
+use Rattle.std.specs.Prelude.{ℕ, ◌+◌, ◌<◌, nat_lt, if◌then◌else◌, List, [], ◌++◌, length, flat_map, slice_index_or, codes, decimal}
 use Rattle.picture.specs.declared.canvas.Spot.{Spot}
 use Rattle.picture.specs.declared.canvas.Bar.{Bar}
 use Rattle.picture.specs.declared.canvas.Layout.{Layout}
@@ -9,14 +9,14 @@ use Rattle.picture.specs.declared.tree.Node.TheVariants as nodes
 use Rattle.picture.specs.declared.tree.Census.{Census}
 
 -- what is drawn: the places of the cities, and where these come from; the tour by its cities; the fixed pairs; the length of the tour;
--- how many nodes of the tree there are, if they could be counted, and the bars of its strip
+-- how many nodes of each kind the tree has, and the bars of its strip
 pub record Scene : Type 0 where
   pub layout : Layout
   pub spots : List Spot
   pub tour : List ℕ
   pub fixed : List (ℕ × ℕ)
   pub length_told : ℕ
-  pub census : Option Census
+  pub census : Census
   pub bars : List Bar
 
 -- where a city stands
@@ -86,13 +86,8 @@ layout_text layouts.Plane = codes "<text x='20' y='1045'>drawn by their coordina
 layout_text layouts.Circle = codes "<text x='20' y='1045'>no coordinates: drawn on a circle, by their numbers; fixed pairs are red</text>\n"
 
 -- how many nodes there are
-unfoldable pub counts_text : Census → List ℕ
-counts_text c = codes "<text x='20' y='1080'>the tree by depth: " ++ (decimal c.split ++ (codes " split (grey), " ++ (decimal c.closed ++ (codes " closed (green), " ++ (decimal c.open ++ codes " open (orange)</text>\n")))))
-
--- the same, if they could be counted
-unfoldable pub census_text : Option Census → List ℕ
-census_text None = codes "<text x='20' y='1080'>a tree of too many nodes to draw</text>\n"
-census_text (Some c) = counts_text c
+unfoldable pub census_text : Census → List ℕ
+census_text c = codes "<text x='20' y='1080'>the tree by depth: " ++ (decimal c.split ++ (codes " split (grey), " ++ (decimal c.closed ++ (codes " closed (green), " ++ (decimal c.open ++ codes " open (orange)</text>\n")))))
 
 unfoldable pub notes_text : Scene → List ℕ
 notes_text s = codes "<g font-family='sans-serif' font-size='20'>\n" ++ size_text (length s.tour) s.length_told ++ layout_text s.layout ++ census_text s.census ++ codes "</g>\n"

@@ -101,10 +101,10 @@ pub(crate) fn add_layout(text: &mut String, layout: Layout) -> Result<(), AllocE
     }
 }
 
-/// Adds the numbers of nodes.
-#[tactic(auto, unfolding(crate::specs::Texts::counts_text))]
-fn add_counts(text: &mut String, census: Census) -> Result<(), AllocError>
-    ensures { OnOk result (string_bytes text.new ≡ string_bytes text.old ++ texts.counts_text census) }
+/// Adds the note on the tree.
+#[tactic(auto, unfolding(crate::specs::Texts::census_text))]
+pub(crate) fn add_census(text: &mut String, census: Census) -> Result<(), AllocError>
+    ensures { OnOk result (string_bytes text.new ≡ string_bytes text.old ++ texts.census_text census) }
 {
     let Census {
         open,
@@ -115,15 +115,4 @@ fn add_counts(text: &mut String, census: Census) -> Result<(), AllocError>
         text,
         "<text x='20' y='1080'>the tree by depth: {split} split (grey), {closed} closed (green), {open} open (orange)</text>"
     )
-}
-
-/// Adds the note on the tree.
-#[tactic(auto, unfolding(crate::specs::Texts::census_text))]
-pub(crate) fn add_census(text: &mut String, census: Option<Census>) -> Result<(), AllocError>
-    ensures { OnOk result (string_bytes text.new ≡ string_bytes text.old ++ texts.census_text census) }
-{
-    match census {
-        Some(census) => add_counts(text, census),
-        None => { text.push_str("<text x='20' y='1080'>a tree of too many nodes to draw</text>\n") }
-    }
 }

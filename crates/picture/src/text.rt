@@ -20,8 +20,8 @@ pub struct Drawing<'a> {
     pub fixed: &'a [(u32, u32)],
     /// The length of the tour.
     pub length: u64,
-    /// How many nodes the tree has, if they could be counted.
-    pub census: Option<Census>,
+    /// How many nodes the tree has.
+    pub census: Census,
     /// The strip of the tree.
     pub bars: &'a [Bar],
 }
