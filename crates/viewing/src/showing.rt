@@ -73,7 +73,7 @@ fn say<D: Desk>(alloc: Global, desk: &mut D, refusal: u32, line: u64) -> ViewSta
     ensures same { D.read_faults desk.new ≡ D.read_faults desk.old }
 {
     match refused_text(alloc, refusal, line) {
-        Ok(printed) => match write_all(desk, Outlet::Text, printed.as_bytes()) {
+        Ok(printed) => match write_all(desk, Outlet::Text, &printed) {
             Ok(()) => ViewStatus::Refused,
             Err(_) => ViewStatus::WriteFault,
         },
@@ -91,7 +91,8 @@ fn judge<D: Desk>(
 ) -> ViewStatus
     requires { AreMapped mapped.now }
     ensures desk { BothTell (Judges mapped.now.instance bytes.now out.now result) (D.told desk.old) (D.told desk.new) }
-    ensures status { result ≢ ViewStatus.ReadFault }
+    ensures read { result ≢ ViewStatus.ReadFault }
+    ensures usage { result ≢ ViewStatus.Usage }
     ensures cause { Cause (result ≡ ViewStatus.WriteFault) (D.write_faults desk.old) (D.write_faults desk.new) }
     ensures same { D.read_faults desk.new ≡ D.read_faults desk.old }
 {
@@ -111,6 +112,7 @@ pub(crate) fn show<D: Desk>(
 ) -> ViewStatus
     requires { AreMapped mapped.now }
     ensures desk { BothTell (ShowsOn mapped.now.instance paths.entry.text.now paths.entry.out.now result) (D.told desk.old) (D.told desk.new) }
+    ensures usage { result ≢ ViewStatus.Usage }
     ensures reads { Cause (result ≡ ViewStatus.ReadFault) (D.read_faults desk.old) (D.read_faults desk.new) }
     ensures writes { Cause (result ≡ ViewStatus.WriteFault) (D.write_faults desk.old) (D.write_faults desk.new) }
 {

@@ -16,8 +16,8 @@ pub(crate) fn drawn_text(alloc: Global, length: u64) -> Result<String, AllocErro
 }
 
 /// The first refusal of a text, and its line.
-pub(crate) fn refused_text(alloc: Global, refusal: u32, line: u64) -> Result<String, AllocError>
-    ensures { IfOk result (λ t. string_bytes t ≡ verify_texts.refused_text refusal line) }
+pub(crate) fn refused_text(alloc: Global, refusal: u32, line: u64) -> Result<Vec<u8>, AllocError>
+    ensures { IfOk result (λ t. t.items ≡ verify_texts.refused_text refusal line) }
 {
-    format!(in alloc; "REFUSED {refusal} {line}\n")
+    Ok(format!(in alloc; "REFUSED {refusal} {line}\n")?.into_bytes())
 }
