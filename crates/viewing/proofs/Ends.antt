@@ -149,15 +149,3 @@ bad_ends paths r s a b c refuses which whole torn same = elim which [
       (subst (λ (x : Option Told). BothTell (IsSilent paths) a x) (sym (same e))
       (both_to (RefusesInstance paths.instance r) (IsSilent paths) (λ t u is. inr (inl (is.count, is.others))) a b refuses))
 ]
-
-pub bad_is : (s : VerifyStatus) → IsRefuseStatus s → view_status s ≢ status.Usage
-bad_is s which e = elim which [
-  | inl f ↦ let x : view_status verify.BadInstance ≡ status.Usage = sym (ap view_status f) ∙ e in cc
-  | inr (inl f) ↦ let x : view_status verify.WriteFault ≡ status.Usage = sym (ap view_status f) ∙ e in cc
-  | inr (inr f) ↦ let x : view_status verify.NoMemory ≡ status.Usage = sym (ap view_status f) ∙ e in cc
-]
-
--- ---- an instance that was not read
-
-pub unread_ends : (paths : Paths) (s : ViewStatus) (a b : Option Told) → IsUnread s → BothTell (TouchesInstance paths.instance) a b → BothTell (Ends paths s) a b
-unread_ends paths s a b which r = both_to (TouchesInstance paths.instance) (Ends paths s) (λ t u x. silent_ends paths s t u which (elim x [ inl e ↦ inl e | inr y ↦ inr (inl y) ])) a b r

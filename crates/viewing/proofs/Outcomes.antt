@@ -18,15 +18,6 @@ use Rattle.viewing.specs.Runs.{Ends, EndsRun, IsJudged, IsDrawn, IsDrawable, IsC
 use Rattle.viewing.specs.declared.statuses.ViewStatus.{ViewStatus}
 use Rattle.viewing.specs.declared.statuses.ViewStatus.TheVariants as status
 
-pub call_ends : (words : List Text) (s : ViewStatus) (a b : Option Told) → IsViewCall words → s ≢ status.Usage → BothTell (Ends (paths_of words) s) a b → EndsRun s (run_of words a b)
-call_ends words status.Drawn a b call used ends = (call, ends)
-call_ends words status.Usage a b call used ends = absurd (used refl)
-call_ends words status.BadInstance a b call used ends = (call, ends)
-call_ends words status.Refused a b call used ends = (call, ends)
-call_ends words status.ReadFault a b call used ends = (call, ends)
-call_ends words status.WriteFault a b call used ends = inl (call, ends)
-call_ends words status.NoMemory a b call used ends = (call, ends)
-
 -- ---- words of another form
 
 pub usage_ends : (words : List Text) (s : ViewStatus) (a b : Option Told) → ¬ IsViewCall words → (s ≡ status.Usage) ⊎ (s ≡ status.WriteFault)
@@ -95,16 +86,4 @@ call_completes words s a b r0 r1 w0 w1 is ends used reads writes calm still = re
   judged = λ i call told. run_judges (paths_of words) s i a b r0 r1 w0 w1 ends used told reads writes calm still;
   drawn = λ i l m call told. run_draws (paths_of words) s i l m a b ends told
       (run_judges (paths_of words) s i a b r0 r1 w0 w1 ends used (told_instance i l m a told) reads writes calm still);
-}
-
--- words of another form are no call
-pub usage_completes : (words : List Text) (s : ViewStatus) (a b : Option Told) (w0 w1 : ℕ) → ¬ IsViewCall words → (s ≡ status.Usage) ⊎ (s ≡ status.WriteFault)
-    → Cause (s ≡ status.WriteFault) w0 w1 → IsCalm w0 w1 → IsComplete s (run_of words a b)
-usage_completes words s a b w0 w1 other which writes still = record {
-  used = λ no. elim which [
-    | inl e ↦ e
-    | inr e ↦ absurd (no_fault (s ≡ status.WriteFault) w0 w1 writes still e)
-  ];
-  judged = λ i call told. absurd (other call);
-  drawn = λ i l m call told. absurd (other call);
 }

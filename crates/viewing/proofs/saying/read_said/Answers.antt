@@ -14,11 +14,9 @@ returns-then-not-are_few-clause-refused c =
     let few : i.n < 2 ^ 32 = search rules in
     inr (
       refl,
-      (
-        refl,
-        too_many i c.args.bytes.now said.length said.bound said.parts.items said.full c.yes_is_body_text.ensures.exact c.yes_is_body_text.ensures.parts few
-            c.in-Ok.ensures.judged c.in-Ok.ensures.said (sym c.are_few.ensures ∙ c.if-not-are_few.true),
-      ),
+      refl,
+      too_many i c.args.bytes.now said.length said.bound said.parts.items said.full c.yes_is_body_text.ensures.exact c.yes_is_body_text.ensures.parts few
+          c.in-Ok.ensures.judged c.in-Ok.ensures.said (sym c.are_few.ensures ∙ c.if-not-are_few.true),
     )
 
 pub take_tour-tour-requires : goal.take_tour-tour-requires
