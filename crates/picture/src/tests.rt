@@ -102,10 +102,7 @@ fn how_deep_nodes_lie(rt: HostRuntime) -> Result<(), Fail> {
     ];
     assert_eq!(rt; strip.as_slice(), want.as_slice());
     // a deep tree: each bar is one wide, and no depth behind the 960th is drawn
-    let mut chain = Vec::new(alloc);
-    for _ in 0..1000 {
-        chain.push(Node::Split)?;
-    }
+    let chain = [Node::Split; 1000];
     let deep = depths(alloc, &chain)?;
     let strip = bars(alloc, &chain, &deep)?;
     assert_eq!(rt; deep.last(), Some(&999));
