@@ -1,5 +1,5 @@
 -- Places on the canvas.
-use Rattle.std.specs.Prelude.{ℕ, ◌+◌, ◌≤◌}
+use Rattle.std.specs.Prelude.{◌+◌, ◌≤◌}
 use Rattle.picture.specs.declared.canvas.Spot.{Spot}
 use Rattle.picture.specs.declared.canvas.Bar.{Bar}
 

@@ -1,5 +1,5 @@
 -- What a drawing shows.
-use Rattle.std.specs.Prelude.{ℕ, ◌<◌, ◌^◌, length, All}
+use Rattle.std.specs.Prelude.{◌<◌, ◌^◌, length, All}
 use Rattle.picture.specs.Texts.{Scene}
 use Rattle.picture.specs.declared.text.Drawing.{Drawing}
 

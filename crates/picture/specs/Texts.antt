@@ -1,5 +1,5 @@
 -- The text of a drawing: lines of SVG, in the order in which they are painted.
-use Rattle.std.specs.Prelude.{ℕ, ◌+◌, ◌<◌, nat_lt, if◌then◌else◌, List, [], ◌++◌, length, flat_map, slice_index_or, codes, decimal}
+use Rattle.std.specs.Prelude.{ℕ, ◌+◌, nat_lt, if◌then◌else◌, List, ◌++◌, length, flat_map, slice_index_or, codes, decimal}
 use Rattle.picture.specs.declared.canvas.Spot.{Spot}
 use Rattle.picture.specs.declared.canvas.Bar.{Bar}
 use Rattle.picture.specs.declared.canvas.Layout.{Layout}

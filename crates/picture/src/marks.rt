@@ -1,5 +1,5 @@
 //! The marks of a drawing, each as one line of SVG or a part of one.
-ghost use Rattle.std.specs.Prelude.{◌≡◌, ◌+◌, ◌<◌, ◌^◌, ◌++◌, IfOk, OnOk, string_bytes};
+ghost use Rattle.std.specs.Prelude.{◌≡◌, ◌+◌, ◌<◌, ◌^◌, ◌++◌, OnOk, string_bytes};
 ghost use Rattle.picture.specs.Texts as texts;
 
 use crate::canvas::{Bar, Layout, Spot};

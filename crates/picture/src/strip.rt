@@ -1,5 +1,5 @@
 //! The nodes of a tree as a strip: a bar for each depth, of its splits, its closed and its open leaves, one above the other.
-ghost use Rattle.std.specs.Prelude.{◌≡◌, ◌<◌, ◌≤◌, ◌+◌, length, IfOk, OnOk};
+ghost use Rattle.std.specs.Prelude.{◌≤◌, ◌+◌, IfOk, OnOk};
 ghost use Rattle.std.specs.List.{AllByRecursion};
 ghost use Rattle.picture.specs.Canvas.{IsInStrip};
 

@@ -1,5 +1,5 @@
 //! The text of a drawing.
-ghost use Rattle.std.specs.Prelude.{◌≡◌, ◌+◌, ◌<◌, ◌≤◌, ◌^◌, ◌++◌, length, flat_map, All, IfOk, OnOk, string_bytes};
+ghost use Rattle.std.specs.Prelude.{◌≡◌, ◌<◌, ◌^◌, ◌++◌, length, All, IfOk, OnOk, string_bytes};
 ghost use Rattle.picture.specs.Texts as texts;
 ghost use Rattle.picture.specs.Scenes.{scene_of, IsDrawable};
 

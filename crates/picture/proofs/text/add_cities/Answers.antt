@@ -1,4 +1,4 @@
-use Rattle.std.proofs.Common.{◌≡◌, ℕ, List, ◌++◌, length, ap, ◌∙◌, arith}
+use Rattle.std.proofs.Common.{ℕ, List, ◌++◌, length, ap, ◌∙◌, arith}
 use Rattle.std.specs.Prelude.{flat_map, string_bytes}
 use Rattle.std.proofs.lemmas.List.{take_all}
 use Rattle.picture.specs.Texts.{dot_of, radius_of, cities_text}

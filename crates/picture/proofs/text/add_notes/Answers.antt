@@ -1,4 +1,3 @@
-use Rattle.std.proofs.Common.{◌≡◌, ℕ, List, ◌++◌}
 use Rattle.std.specs.Prelude.{string_bytes}
 use Rattle.picture.specs.Texts.{notes_text}
 use Rattle.picture.proofs.Chains.{when_ok, then_ok, three_between}

@@ -1,5 +1,5 @@
-use Rattle.std.proofs.Common.{◌≡◌, ℕ, List, ◌++◌, ap, sym, ◌∙◌, arith, take}
-use Rattle.std.specs.Prelude.{flat_map, string_bytes, codes}
+use Rattle.std.proofs.Common.{List, ◌++◌, ap, ◌∙◌, arith}
+use Rattle.std.specs.Prelude.{flat_map, string_bytes}
 use Rattle.std.proofs.lemmas.List.{take_all}
 use Rattle.picture.specs.Texts.{corner_of, tour_text}
 use Rattle.picture.proofs.Chains.{when_ok, then_ok, between}

@@ -1,7 +1,7 @@
-use Rattle.std.proofs.Common.{◌≡◌, ◌≤◌, ℕ, ◌+◌, List, [], ◌∷◌, ◌++◌, sym, ap, subst, ◌∙◌, arith, drop}
+use Rattle.std.proofs.Common.{◌≤◌, ℕ, ◌+◌, List, [], ◌∷◌, sym, ap, subst, ◌∙◌, arith, drop}
 use Rattle.std.specs.List.{AllByRecursion}
 use Rattle.std.proofs.lemmas.List.{drop_more, drop_all}
-use Rattle.picture.specs.Trees.{Shape, depths_from}
+use Rattle.picture.specs.Trees.{depths_from}
 use Rattle.picture.specs.declared.tree.Node.{Node}
 use Rattle.picture.proofs.Walking.{Reaches, starts, goes_on, ends, still_low}
 use Rattle.picture.proofs.tree.depths.Goals as goal
