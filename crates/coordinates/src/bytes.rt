@@ -1,7 +1,5 @@
 //! Bytes as a desk, from which they are read.
-ghost use Rattle.std.specs.Prelude.{◌≡◌, ◌≢◌, ◌≤◌, ◌<◌, ◌+◌, ◌++◌, ◌-◌, ◌^◌, [], min, take, drop, length, Some, None, IfOk, OnOk, OnErr, IsErr};
-ghost use Rattle.ports.specs.Outside.{BothTell, WhereTold, Cause};
-ghost use Rattle.ports.specs.Desk.{Told, Takes, Adds, IsAtEnd, with_inlet_path, with_outlet_path};
+ghost use Rattle.std.specs.Prelude.{◌≡◌, ◌++◌, [], min, take, length, None};
 ghost use Rattle.coordinates.specs.Bytes.{told_of};
 
 use ports::{Desk, Failed, Inlet, Outlet};

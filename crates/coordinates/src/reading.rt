@@ -1,7 +1,5 @@
 //! An instance with its points.
-ghost use Rattle.std.specs.Prelude.{◌≡◌, ℕ, IfOk, IfSome, IsTrue};
-ghost use Rattle.distx.specs.Kind.{rule_of};
-ghost use Rattle.tspinst.specs.Tables.{distances};
+ghost use Rattle.std.specs.Prelude.{◌≡◌, IfOk, IfSome, IsTrue};
 ghost use Rattle.tspinst.specs.Texts.{InstanceText, BadInstanceText};
 ghost use Rattle.tspinst.specs.Refusals.{number_of, line_of, extras_of};
 ghost use Rattle.coordinates.specs.Maps.{IsMapOf, IfRefused};
