@@ -1,18 +1,12 @@
 -- What becomes of the desk where the bytes of an instance are too many.
-use Rattle.std.proofs.Common.{◌≡◌, ℕ, ◌+◌, ◌^◌, ◌<◌, ◌≤◌, List, [], length, drop, refl, sym, ap, subst, ◌∙◌, arith, inl, inr, Option, Some, None, Err}
-use Rattle.std.proofs.lemmas.List.{drop_all}
+use Rattle.std.proofs.Common.{◌≡◌, ℕ, ◌+◌, ◌^◌, ◌<◌, ◌≤◌, List, [], length, drop, refl, ap, subst, ◌∙◌, inr, Option, Some, None, Err}
 use Rattle.std.proofs.lemmas.Bool.{cond-true, lt-ltb}
 use Rattle.ports.specs.Outside.{BothTell, WhereTold}
-use Rattle.ports.specs.Desk.{Told, TakesAll, TakesFirst, with_left, with_inlet_path, left}
+use Rattle.ports.specs.Desk.{Told, TakesFirst, with_left, with_inlet_path}
 use Rattle.ports.specs.declared.desk.Inlet.TheVariants as inlet
-use Rattle.tspdef.specs.Instances.{Instance}
-use Rattle.tspinst.specs.Texts.{InstanceText, BadInstanceText, outcome}
-use Rattle.tspinst.specs.Refusals.{number_of, line_of, extras_of}
-use Rattle.tspinst.specs.declared.refusals.Refusal.{Refusal}
+use Rattle.tspinst.specs.Texts.{BadInstanceText, outcome}
 use Rattle.tspinst.specs.declared.refusals.Refusal.TheVariants as refusals
-use Rattle.verification.specs.Transfers.{ReadsInstance, RefusesInstance, TouchesInstance, TouchesProof, instance_told}
-use Rattle.verification.proofs.Tells.{both_then}
-use Rattle.viewing.specs.Readings.{ReadsText}
+use Rattle.verification.specs.Transfers.{RefusesInstance}
 
 abbrev Binds : List ℕ → Told → Told → Type 0
 Binds word t u = u ≡ with_inlet_path inlet.Instance word t

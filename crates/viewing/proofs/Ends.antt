@@ -1,19 +1,18 @@
 -- How the steps of a call end on the desk.
-use Rattle.std.proofs.Common.{◌≡◌, ◌≢◌, ℕ, ◌≤◌, List, [], ◌++◌, length, take, drop, refl, sym, ap, subst, ◌∙◌, inl, inr, ◌⊎◌, Option}
+use Rattle.std.proofs.Common.{◌≡◌, ℕ, List, length, take, refl, sym, ap, subst, ◌∙◌, inl, inr, Option}
 use Rattle.std.proofs.Math.Seq.{drop-length}
 use Rattle.ports.specs.Outside.{BothTell}
-use Rattle.ports.specs.Desk.{Told, Adds, with_added, with_left, with_inlet_path, with_outlet_path}
+use Rattle.ports.specs.Desk.{Told, Adds, with_added, with_left, with_inlet_path}
 use Rattle.ports.specs.declared.desk.Inlet.TheVariants as inlet
 use Rattle.ports.specs.declared.desk.Outlet.TheVariants as outlet
-use Rattle.tspdef.specs.Instances.{Instance, IsTourOf, length_in}
+use Rattle.tspdef.specs.Instances.{Instance}
 use Rattle.tspinst.specs.Texts.{InstanceText}
 use Rattle.tspinst.specs.declared.refusals.Refusal.{Refusal}
 use Rattle.certdef.specs.Accepted.{from_zero}
-use Rattle.picture.specs.Texts.{Scene, picture_text}
 use Rattle.picture.specs.declared.tree.Node.{Node}
 use Rattle.verification.specs.Headline.{BadInstance}
 use Rattle.verification.specs.Texts.{instance_text, refused_text}
-use Rattle.verification.specs.Transfers.{ReadsInstance, RefusesInstance, TouchesInstance, TouchesProof, Torn, read_told, proof_told}
+use Rattle.verification.specs.Transfers.{ReadsInstance, RefusesInstance, TouchesProof, Torn, read_told}
 use Rattle.verification.specs.Readings.{IsRefuseStatus}
 use Rattle.verification.specs.declared.statuses.VerifyStatus.{VerifyStatus}
 use Rattle.verification.specs.declared.statuses.VerifyStatus.TheVariants as verify
@@ -23,11 +22,11 @@ use Rattle.verification.proofs.Refusing.{bad_instance}
 use Rattle.viewing.specs.Words.{Paths}
 use Rattle.viewing.specs.Codes.{view_status}
 use Rattle.viewing.specs.Texts.{drawn_text}
-use Rattle.viewing.specs.Saying.{IsRefusedAs, nodes_of}
-use Rattle.viewing.specs.Pictures.{Shows, IsPicture}
+use Rattle.viewing.specs.Saying.{IsRefusedAs}
+use Rattle.viewing.specs.Pictures.{Shows}
 use Rattle.viewing.specs.Headline.{Drawn, Refused}
 use Rattle.viewing.specs.Readings.{text_told}
-use Rattle.viewing.specs.Showing.{IsMade, PutsFront, Finishes, Says, Draws, Refuses, Judges, IsUnread, ShowsOn, drawn_told}
+use Rattle.viewing.specs.Showing.{IsMade, PutsFront, Draws, Refuses, IsUnread, ShowsOn, drawn_told}
 use Rattle.viewing.specs.Runs.{IsAnswered, IsSilent, HalfDrawn, Ends}
 use Rattle.viewing.specs.declared.statuses.ViewStatus.{ViewStatus}
 use Rattle.viewing.specs.declared.statuses.ViewStatus.TheVariants as status

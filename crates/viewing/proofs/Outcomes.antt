@@ -1,5 +1,5 @@
 -- From how a call ends to how a run of the program ends.
-use Rattle.std.proofs.Common.{◌≡◌, ◌≢◌, ℕ, List, refl, sym, ap, subst, ◌∙◌, ◌⊎◌, inl, inr, take, Option, Some, None, Ok, arith}
+use Rattle.std.proofs.Common.{◌≡◌, ◌≢◌, ℕ, List, refl, sym, subst, ◌∙◌, ◌⊎◌, inl, inr, take, Option, Some, None, Ok, arith}
 use Rattle.ports.specs.Outside.{BothTell, Cause}
 use Rattle.ports.specs.Desk.{Told, Adds}
 use Rattle.ports.specs.declared.desk.Outlet.TheVariants as outlet

@@ -1,6 +1,6 @@
 -- What is read out of a text, and why one is refused.
-use Rattle.std.proofs.Common.{◌≡◌, ℕ, ◌+◌, ◌^◌, ◌<◌, ◌≤◌, Bool, true, false, ◌&&◌, List, ◌∷◌, length, refl, sym, ap, subst, ◌∙◌, arith, inl, inr, map}
-use Rattle.std.specs.Prelude.{not, nat_le, nat_lt}
+use Rattle.std.proofs.Common.{◌≡◌, ℕ, ◌^◌, ◌<◌, ◌≤◌, Bool, true, false, ◌&&◌, List, ◌∷◌, length, refl, sym, ap, subst, ◌∙◌, arith, inl, map}
+use Rattle.std.specs.Prelude.{not, nat_le}
 use Rattle.std.proofs.lemmas.List.{length-map}
 use Rattle.std.proofs.lemmas.Bool.Decides.{nat_tests}
 use Rattle.tspdef.specs.Instances.{Instance}
@@ -16,7 +16,7 @@ use Rattle.certcheck.specs.declared.part.Part as P
 use Rattle.certcheck.specs.declared.answer.Trouble.{Trouble}
 use Rattle.certcheck.specs.declared.answer.Trouble.TheVariants as troubles
 use Rattle.picture.specs.declared.tree.Node.{Node}
-use Rattle.viewing.specs.Saying.{IsSaid, HasTooMany, IsRefusedAs, IsRefusal, BeginsWithTour, node_of, nodes_of, most_nodes}
+use Rattle.viewing.specs.Saying.{IsSaid, HasTooMany, IsRefusal, BeginsWithTour, node_of}
 
 -- the parts of a text, all of them
 pub record IsWhole (i : Instance) (bytes : List ℕ) (l b : ℕ) (ps : List P.Part) : Type 0 where

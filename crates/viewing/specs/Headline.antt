@@ -2,7 +2,7 @@
 -- are left to read of the instance and of the text, `proof_out` are the bytes that were written to the file of the picture, `text` is
 -- the standard output, and each file has the path that it was last bound to and how often it was bound. `record before { .. }` is the
 -- desk before with these changes and no other. A bad instance is told as the verifier tells it: its `BadInstance`.
-use Rattle.std.specs.Prelude.{◌≡◌, ℕ, ◌+◌, ◌≤◌, List, [], ◌++◌, length, Some}
+use Rattle.std.specs.Prelude.{◌≡◌, ℕ, ◌+◌, ◌≤◌, [], ◌++◌, length, Some}
 use Rattle.ports.specs.Desk.{Told}
 use Rattle.tspdef.specs.Instances.{Instance, IsTourOf, length_in}
 use Rattle.tspinst.specs.Texts.{InstanceText}

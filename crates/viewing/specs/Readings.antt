@@ -1,5 +1,5 @@
 -- What reading the two files does.
-use Rattle.std.specs.Prelude.{◌≡◌, ℕ, List, [], Option, Some, None}
+use Rattle.std.specs.Prelude.{◌≡◌, ℕ, List, []}
 use Rattle.ports.specs.Desk.{Told, with_left, with_inlet_path}
 use Rattle.ports.specs.declared.desk.Inlet.TheVariants as inlet
 use Rattle.verification.specs.Transfers.{ReadsInstance, RefusesInstance}

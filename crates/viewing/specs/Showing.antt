@@ -1,5 +1,5 @@
 -- What the second step does: it reads a text for an instance, and draws what it says or prints its first refusal.
-use Rattle.std.specs.Prelude.{◌≡◌, ℕ, ◌⊎◌, List, [], take}
+use Rattle.std.specs.Prelude.{◌≡◌, ℕ, ◌⊎◌, List, take}
 use Rattle.ports.specs.Desk.{Told, Adds, with_added, with_outlet_path}
 use Rattle.ports.specs.declared.desk.Outlet.TheVariants as outlet
 use Rattle.tspdef.specs.Instances.{Instance}

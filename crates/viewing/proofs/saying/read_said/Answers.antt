@@ -1,4 +1,4 @@
-use Rattle.std.proofs.Common.{rules, ◌≡◌, ◌^◌, ◌<◌, refl, sym, ◌∙◌, inr}
+use Rattle.std.proofs.Common.{rules, ◌^◌, ◌<◌, refl, sym, ◌∙◌, inr}
 use Rattle.viewing.proofs.Parts.{IsWhole, whole, too_many, whole_begins, was_said, test_refuses}
 use Rattle.viewing.proofs.saying.read_said.Goals as goal
 
