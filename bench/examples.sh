@@ -8,7 +8,7 @@
 set -u
 top=$(cd "$(dirname "$0")/.." && pwd)
 . "$top/bench/programs.sh"
-programs || exit 1
+programs && viewing_program || exit 1
 writes=no
 [ "${1:-}" != --write ] || { writes=yes; shift; }
 work=$(mktemp -d)
@@ -16,6 +16,7 @@ trap 'rm -rf "$work"' EXIT
 mkdir "$work/bin"
 ln -s "$solver" "$work/bin/tspc"
 ln -s "$verifier" "$work/bin/tspverify"
+ln -s "$viewer" "$work/bin/tspview"
 PATH=$work/bin:$PATH
 
 # prints each line of a file of commands, what it prints, and its status where that is not 0

@@ -1,5 +1,5 @@
 #!/usr/bin/env bash
-# Makes the Debian package, installs it in a clean root by dpkg, solves and verifies there, tries the completion and the man pages, and
+# Makes the Debian package, installs it in a clean root by dpkg, solves, verifies and draws there, tries the completion and the man pages, and
 # removes it again. Not part of the gate. Programs by ZUKONAWI_PROGRAMS, as in ./install. Needs dpkg, and chroot as root; else the programs
 # are run from outside.
 #
@@ -32,7 +32,7 @@ expect 'the state after the installation' "$(dpkg-query --admindir="$root/var/li
 expect 'files in the root' "$(wc -l <"$work/files")" "$(dpkg-deb --fsys-tarfile "$package" | tar t | grep -vc '/$')"
 
 if [ "$(id -u)" = 0 ] && command -v chroot >/dev/null; then
-    for library in $(ldd "$root/usr/bin/tspc" "$root/usr/bin/tspverify" | grep -o '/[^ :]*' | grep -v "^$root" | sort -u); do
+    for library in $(ldd "$root/usr/bin/tspc" "$root/usr/bin/tspverify" "$root/usr/bin/tspview" | grep -o '/[^ :]*' | grep -v "^$root" | sort -u); do
         mkdir -p "$root/$(dirname "$library")"
         cp -L "$library" "$root/$library"
     done
@@ -46,6 +46,8 @@ cp "$root/usr/share/doc/zukonawi/examples/square.tsp" "$root/tmp/"
 expect 'solve' "$(within /usr/bin/tspc solve $at/square.tsp $at/proof $at/restart; echo $?)" $'OPTIMAL 40\nTOUR 1 2 3 4\n0'
 expect 'tspverify' "$(within /usr/bin/tspverify $at/square.tsp $at/proof; echo $?)" $'VERIFIED 40\n0'
 expect 'tspc verify' "$(within /usr/bin/tspc verify $at/square.tsp $at/proof; echo $?)" $'VERIFIED 40\n0'
+expect 'tspview' "$(within /usr/bin/tspview $at/square.tsp $at/proof $at/svg; echo $?)" $'DRAWN 40\n0'
+expect 'the picture' "$(tail -n 1 "$root/tmp/svg")" '</svg>'
 expect 'no words' "$(within /usr/bin/tspverify; echo $?)" $'USAGE tspverify INSTANCE PROOF\n2'
 
 complete_in_bash() ( # PROGRAM WORD..: what its completion offers for the last word
@@ -60,7 +62,7 @@ expect 'completion of an option' "$(complete_in_bash tspc solve a b c --gr)" --g
 expect 'completion of a file' "$(cd "$root/usr/share/doc" && complete_in_bash tspverify zuk)" zukonawi
 
 if command -v man >/dev/null; then
-    for name in tspc tspverify; do
+    for name in tspc tspverify tspview; do
         page=$root/usr/share/man/man1/$name.1.gz
         expect "man $name has no warnings" "$(MANROFFSEQ='' man --warnings -l "$page" 2>&1 >"$work/$name.txt" | head -3)" ''
         expect "man $name tells its status" "$(grep -c '^EXIT STATUS' "$work/$name.txt")" 1

@@ -4,8 +4,9 @@
   bench/words.py             fails where a page has other words than the table of the programs, a row too many or one too few
   bench/words.py --print     prints the rows of the table, as the pages write them
 
-The table is crates/wording/src/table.rt. The pages are docs/FORMATS.md, which has all rows, and the man pages docs/tspc.1 and
-docs/tspverify.1, which have those that the program can print, in their section REFUSALS.
+The table is crates/wording/src/table.rt. The pages are docs/FORMATS.md, which has all rows, and the man pages docs/tspc.1,
+docs/tspverify.1 and docs/tspview.1, which have those that the program can print, in their section REFUSALS (the viewer's those that
+the verifier does not print).
 """
 import re
 import sys
@@ -66,12 +67,17 @@ def rows_of_the_formats():
 
 
 def is_of_the_solver(key):
-    return not key.startswith("USAGE tspverify")
+    return not key.startswith(("USAGE tspverify", "USAGE tspview", "REFUSED 12 "))
 
 
 def is_of_the_verifier(key):
     kinds = ("INSTANCE ", "REFUSED ", "USAGE tspverify", "status 6", "status 7", "status 9")
-    return key.startswith(kinds) and not key.endswith("(checkbound)")
+    return key.startswith(kinds) and not key.endswith("(checkbound)") and not is_of_the_viewer(key)
+
+
+def is_of_the_viewer(key):
+    """What the viewer prints beside what the verifier does: its page names that of the verifier for the rest."""
+    return key.startswith(("USAGE tspview", "REFUSED 12 "))
 
 
 def differences(page, found, wanted):
@@ -97,7 +103,7 @@ def main():
     if sys.argv[1:]:
         sys.exit(__doc__)
     faults = list(differences("docs/FORMATS.md", rows_of_the_formats(), rows))
-    for page, is_printed in (("tspc.1", is_of_the_solver), ("tspverify.1", is_of_the_verifier)):
+    for page, is_printed in (("tspc.1", is_of_the_solver), ("tspverify.1", is_of_the_verifier), ("tspview.1", is_of_the_viewer)):
         wanted = {key: words for key, words in rows.items() if is_printed(key)}
         faults += differences(f"docs/{page}", rows_of_a_man_page(page), wanted)
     for fault in faults:

@@ -4,7 +4,7 @@
 //!   That it is that is the law [`kept_is_the_last_line`].
 //! - [`explain`] says that line in words, where it is a refusal of its [`Subject`], or what the exit status tells of a fault outside.
 //! - [`tell`] prints that on standard error, where it is a terminal.
-//! - [`TABLES`] has the words of both programs, in `src/table.rt` alone. The man pages and docs/FORMATS.md have the same ones, and
+//! - [`TABLES`] has the words of all programs, in `src/table.rt` alone. The man pages and docs/FORMATS.md have the same ones, and
 //!   `bench/words.py` compares them.
 #![tactic(auto)]
 

@@ -3,7 +3,7 @@
 
 use crate::rows::{Row, StatusRow, Tables};
 
-/// The tables of both programs.
+/// The tables of all programs.
 pub const TABLES: Tables<'static> = Tables {
     refusals: REFUSALS,
     certificates: CERTIFICATES,
@@ -22,6 +22,11 @@ const REFUSALS: &[Row] = &[
         front: "USAGE tspverify INSTANCE PROOF",
         back: "",
         words: "there are not just two words; give the file of the instance, and then that of the proof",
+    },
+    Row {
+        front: "USAGE tspview INSTANCE TEXT OUT",
+        back: "",
+        words: "there are not just three words, or one begins with a dash; give the file of the instance, that of a proof or restart body, and that of the picture",
     },
     Row {
         front: "INSTANCE 1 0",
@@ -182,6 +187,11 @@ const REFUSALS: &[Row] = &[
         front: "REFUSED 11 4",
         back: "",
         words: "the bound is not below the length; the proof was changed",
+    },
+    Row {
+        front: "REFUSED 12 0",
+        back: "",
+        words: "the text has more than 1,048,576 nodes, which are not drawn; tspverify says whether it is a proof",
     },
     Row {
         front: "RESTART 1 0",

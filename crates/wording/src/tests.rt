@@ -8,7 +8,7 @@ use std::io;
 use std::sync::atomic::{AtomicU64, Ordering};
 use std::test::Fail;
 
-/// A printed line, and how its words begin. Each refusal of an instance, a proof and a restart body, and both usages.
+/// A printed line, and how its words begin. Each refusal of an instance, a proof and a restart body, and each usage.
 const LINES: &[(&str, &str)] = &[
     (
         "USAGE tspc solve/verify/tour/bench/replay/bound/checkbound\n",
@@ -17,6 +17,10 @@ const LINES: &[(&str, &str)] = &[
     (
         "USAGE tspverify INSTANCE PROOF\n",
         "there are not just two words; ",
+    ),
+    (
+        "USAGE tspview INSTANCE TEXT OUT\n",
+        "there are not just three words, or one begins with a dash; ",
     ),
     ("INSTANCE 1 0\n", "the file has more than 2^26 bytes; "),
     (
@@ -110,6 +114,7 @@ const LINES: &[(&str, &str)] = &[
         "line 18446744073709551615: the text is longer than 2^60 bytes",
     ),
     ("REFUSED 11 4\n", "the bound is not below the length; "),
+    ("REFUSED 12 0\n", "the text has more than 1,048,576 nodes, "),
     (
         "RESTART 1 0\n",
         "there is no whole body in RESTART.0 and RESTART.1; ",

@@ -1,0 +1,2 @@
+# fish completion for tspview
+complete -c tspview -F

@@ -1,0 +1,7 @@
+use Rattle.std.proofs.Common.{◌≡◌, ◌++◌, take}
+use Rattle.std.specs.Prelude.{flat_map, string_bytes}
+use Rattle.picture.specs.Texts.{line_of}
+use Rattle.picture.proofs.text.add_fixed.Given as goal
+
+abbrev pub invariant-loop-place : goal.invariant-loop-place
+invariant-loop-place l = string_bytes l.text ≡ string_bytes l.initial.text ++ flat_map (line_of l.spots) (take l.place l.fixed)

@@ -1,0 +1,7 @@
+use Rattle.std.proofs.Common.{◌≡◌, ◌++◌, take}
+use Rattle.std.specs.Prelude.{flat_map, string_bytes}
+use Rattle.picture.specs.Texts.{corner_of}
+use Rattle.picture.proofs.text.add_tour.Given as goal
+
+abbrev pub invariant-loop-place : goal.invariant-loop-place
+invariant-loop-place l = string_bytes l.text ≡ string_bytes l.initial.text ++ flat_map (corner_of l.spots) (take l.place l.tour)

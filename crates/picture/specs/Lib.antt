@@ -1,0 +1,4 @@
+pub mod Canvas
+pub mod Trees
+pub mod Texts
+pub mod Scenes

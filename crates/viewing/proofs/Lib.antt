@@ -1,0 +1,5 @@
+mod Parts
+mod Bytes
+mod Steps
+mod Ends
+mod Outcomes

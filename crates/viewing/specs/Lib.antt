@@ -1,0 +1,9 @@
+pub mod Headline
+pub mod Words
+pub mod Texts
+pub mod Codes
+pub mod Saying
+pub mod Pictures
+pub mod Readings
+pub mod Showing
+pub mod Runs
