@@ -4,6 +4,7 @@
 #
 #   bench/solve.sh [SHARED] [MOST] [BUDGET]     the instances of at most MOST cities (default 60), with a budget (default 65536);
 #                                               from 60 on also an instance that a seed draws, twice
+#   ZUKONAWI_PROGRAMS=FOLDER                    the programs of that folder
 #   YARDSTICK=../shared/yardstick/bc            prints beside each the seconds of that program, which prints its own length
 set -u
 top=$(cd "$(dirname "$0")/.." && pwd)
@@ -14,10 +15,8 @@ if [ ! -f "$shared/instances/optima.tsv" ]; then
     echo "solve.sh: no instances in $shared: skipped"
     exit 0
 fi
-solver=$top/crates/tspc/out/tspc
-verifier=$top/crates/tspverify/out/tspverify
-[ -x "$solver" ] || solver=$top/tspc
-[ -x "$verifier" ] || verifier=$top/tspverify
+. "$top/bench/programs.sh"
+programs || exit 1
 work=$(mktemp -d)
 trap 'rm -rf "$work"' EXIT
 
