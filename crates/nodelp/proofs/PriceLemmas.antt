@@ -25,7 +25,7 @@ use Rattle.nodelp.specs.Duals.{newest_duals}
 use Rattle.nodelp.specs.Pricing.{IsPassed, ArePotentials}
 use Rattle.nodelp.specs.Potentials.{is_single, holders, weight, potential}
 
-known : {A : Type 0} → (xs : List A) (i : ℕ) (x : A) → x ≡ get_or xs i x → i < length xs → drop i xs ≡ x ∷ drop (i + 1) xs
+pub known : {A : Type 0} → (xs : List A) (i : ℕ) (x : A) → x ≡ get_or xs i x → i < length xs → drop i xs ≡ x ∷ drop (i + 1) xs
 known {A} xs i x is inside = drop_more xs i x inside ∙ ap (λ (q : A). q ∷ drop (i + 1) xs) (sym is)
 
 -- ---- one more row

@@ -6,4 +6,5 @@ pub mod Adding
 pub mod Core
 pub mod Pricing
 pub mod Potentials
+pub mod Holding
 pub mod NodeInside

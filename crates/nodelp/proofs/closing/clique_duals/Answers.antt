@@ -1,4 +1,4 @@
-use Rattle.std.proofs.Common.{◌+◌, arith}
+use Rattle.std.proofs.Common.{arith}
 use Rattle.branchx.specs.Cond.{conditions_of}
 use Rattle.nodelp.specs.Duals.{clique_duals}
 use Rattle.nodelp.proofs.ClosingLemmas.{duals_more}

@@ -13,6 +13,11 @@ potentials-requires-clause-sizes c =
     let p = c.args.lp.now in
     subst (All (IsWithin (2 ^ 62))) (sym c.newest_duals-ys.ensures) (duals_within p.rows (newest_duals p.last) (clean_duals p c.requires.clean))
 
+pub holdings-requires-clause-sizes : goal.holdings-requires-clause-sizes
+holdings-requires-clause-sizes c =
+    let p = c.args.lp.now in
+    subst (All (IsWithin (2 ^ 62))) (sym c.newest_duals-ys.ensures) (duals_within p.rows (newest_duals p.last) (clean_duals p c.requires.clean))
+
 pub add_wanting_of-requires-clause-sizes : goal.add_wanting_of-requires-clause-sizes
 add_wanting_of-requires-clause-sizes c =
     let p = c.args.lp.now in

@@ -1,18 +1,12 @@
-use Rattle.std.proofs.Common.{◌≡◌, ℤ, pos, ◌*ℤ◌, length, get_or, to_z, of_z, ap, ◌<◌, arith}
-use Rattle.std.specs.Int.{w128}
+use Rattle.std.proofs.Common.{pos, arith}
 use Rattle.std.proofs.lemmas.Int.{ints}
-use Rattle.lpcheck.specs.Rows.{signed, coef}
-use Rattle.nodelp.proofs.PriceLemmas.{price_more}
+use Rattle.nodelp.proofs.HoldingLemmas.{price_of_parts}
 use Rattle.nodelp.proofs.pricing.price_of.Goals as goal
 
-pub loop-at-preserved : goal.loop-at-preserved
-loop-at-preserved c =
-    let at = c.loop-at.at in
-    let ys = c.args.ys.now in
-    let row = c.index-rows-at.result in
-    let in_ys : at < length ys = omega (arith, c.loop-at-test.true, c.requires.size) in
-    let more = price_more c.args.rows.now ys at row (pos 0) c.args.u c.args.v c.index-rows-at.is c.loop-at-test.true in_ys in
-    let size = c.requires.sizes at (pos 0) in_ys in
-    let read : to_z w128 (of_z w128 (get_or ys at (pos 0))) ≡ get_or ys at (pos 0) = omega (arith, ints, size.low, size.high) in
-    let same = ap (λ (y : ℤ). signed row.sense y *ℤ pos (coef row c.args.u c.args.v)) read in
-    record { so_far = omega (arith, ints, more, same); low = omega (arith, ints); high = omega (arith, ints) }
+pub returns-clause-value : goal.returns-clause-value
+returns-clause-value c =
+    let value = price_of_parts _ c.args.rows.now c.args.ys.now c.args.hs.now c.args.places.now c.args.u c.args.v c.requires.holdings c.requires.joining c.requires.from c.requires.to in
+    let h = c.requires.holdings in
+    let at_u = h.size c.args.u (pos 0) (omega (arith, c.requires.from, c.requires.to)) in
+    let at_v = h.size c.args.v (pos 0) c.requires.to in
+    omega (arith, ints, value, c.less_twice.ensures.size.low, c.less_twice.ensures.size.high, c.less_twice.ensures.value, c.sharing_at.ensures.value, c.sharing_at.ensures.size.low, c.sharing_at.ensures.size.high, at_u.low, at_u.high, at_v.low, at_v.high)
