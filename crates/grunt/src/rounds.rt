@@ -1,5 +1,8 @@
 //! Rounds of solving a node's relaxation and adding what its answer lacks.
-ghost use Rattle.std.specs.Prelude.{◌≡◌, ◌+◌, ◌^◌, ◌≤◌, true, false, length, All, IfOk};
+ghost use Rattle.std.specs.Prelude.{◌≡◌, ℕ, List, ◌+◌, ◌^◌, ◌≤◌, ◌<ℤ◌, true, false, length, All, IfOk, IfSome, OnOk};
+ghost use Rattle.tspdef.specs.Instances.{Instance as TheInstance};
+ghost use Rattle.tspdef.specs.Paths.{Condition};
+ghost use Rattle.tspdef.specs.Bounds as bounds;
 ghost use Rattle.tspdef.specs.Cuts.{IsCut};
 ghost use Rattle.nodelp.specs.Node.{IsNodeLp, IsClean, HasSolved, IsMissed};
 ghost use Rattle.simplex.specs.Lp.{is_counted};
@@ -26,6 +29,9 @@ use tspinst::Instance;
 
 /// How many rounds a node has.
 pub(crate) const ROUNDS: u32 = 200;
+
+/// One length, in units.
+const SCALE: i128 = 1 << 20;
 
 /// How often cuts are taken off at most.
 const PURGES: u32 = 20;
@@ -62,19 +68,20 @@ pub(crate) fn rounds<B: CutBox>(
     let mut ages = Ages::new(alloc);
     let mut purges = PURGES;
     while node.lp().rounds() < ROUNDS - 1 {
-        let newest = solved(alloc, instance, path, node)?;
-        if newest.bound > needed(wanted) {
-            return Ok(newest);
+        solve(alloc, node)?;
+        if let Some(closing) = closing_look(alloc, instance, path, wanted, node)? {
+            return Ok(closing);
         }
         if purge(alloc, instance, path, node, &mut ages, purges)? {
             purges -= 1;
             continue;
         }
         if !grow(alloc, instance, shared, path, node)? {
-            return Ok(newest);
+            return newest_look(alloc, instance, path, node);
         }
     }
-    solved(alloc, instance, path, node)
+    solve(alloc, node)?;
+    newest_look(alloc, instance, path, node)
 }
 
 /// Counts for how long each cut has been slack, and takes the old ones off where they are many and purges are left: whether it did.
@@ -106,24 +113,81 @@ fn purge(
     }
 }
 
-/// Solves a node's relaxation, and looks at what its duals are worth.
-fn solved(
+/// Solves a node's relaxation.
+fn solve(alloc: Global, node: &mut NodeLp) -> Result<(), AllocError>
+    requires new { is_counted node.old.program ≡ true }
+    requires rounds { node.old.program.rounds ≤ 200 }
+    ensures kept { OnOk result ((i : TheInstance) (path : List Condition) → IsNodeLp i path node.old → IsNodeLp i path node.new) }
+    ensures clean { OnOk result (IsClean node.new.program) }
+    ensures rounds { OnOk result (node.new.program.rounds ≡ node.old.program.rounds + 1) }
+    ensures rows { OnOk result (node.new.program.rows ≡ node.old.program.rows) }
+{
+    node.solve(alloc)
+}
+
+/// What the newest duals are worth, where that closes the node for tours of a length. The sum over all pairs is taken only where the
+/// cost of the program comes within one length of what is needed, as it cannot be far above that cost.
+fn closing_look(
     alloc: Global,
     instance: &Instance,
     path: &Path,
-    node: &mut NodeLp,
+    wanted: u64,
+    node: &NodeLp,
+) -> Result<Option<Look>, AllocError>
+    requires cities { path.now.n ≡ instance.now.n }
+    requires few { length path.now.conditions ≤ 2 ^ 22 }
+    requires node { IsNodeLp instance.now path.now.conditions node.now }
+    requires clean { IsClean node.now.program }
+    ensures look { IfOk result (λ l. IfSome l (IsLook instance.now path.now.conditions node.now)) }
+    ensures closes { IfOk result (λ l. IfSome l (λ k. bounds.needed wanted <ℤ k.bound)) }
+{
+    if cost(instance, node.lp()).saturating_add(SCALE) < needed(wanted) {
+        return Ok(None);
+    }
+    let newest = newest_look(alloc, instance, path, node)?;
+    if newest.bound > needed(wanted) {
+        return Ok(Some(newest));
+    }
+    Ok(None)
+}
+
+/// What the newest values cost, in units; as much as can be where they are rough.
+fn cost(instance: &Instance, lp: &Lp) -> i128
+    requires cities { lp.now.n ≡ instance.now.n }
+    requires clean { IsClean lp.now }
+{
+    match lp.last() {
+        Some(LpAnswer::Solved { x, .. }) => cost_of(instance, x),
+        _ => i128::MAX,
+    }
+}
+
+/// What values on pairs cost, in units.
+fn cost_of(instance: &Instance, x: &Frac) -> i128
+    requires { x.now.n ≡ instance.now.n }
+{
+    let mut cost: i128 = 0;
+    for entry in x.entries() {
+        let pair = u64::from(entry.x) * u64::from(instance.d(entry.u, entry.v));
+        cost = cost.saturating_add(i128::from(pair));
+    }
+    cost
+}
+
+/// What a node's newest duals are worth.
+fn newest_look(
+    alloc: Global,
+    instance: &Instance,
+    path: &Path,
+    node: &NodeLp,
 ) -> Result<Look, AllocError>
     requires cities { path.now.n ≡ instance.now.n }
     requires few { length path.now.conditions ≤ 2 ^ 22 }
-    requires node { IsNodeLp instance.now path.now.conditions node.old }
-    requires new { is_counted node.old.program ≡ true }
-    requires rounds { node.old.program.rounds ≤ 200 }
-    ensures look { IfOk result (IsLook instance.now path.now.conditions node.new) }
-    ensures rounds { IfOk result (λ _. node.new.program.rounds ≡ node.old.program.rounds + 1) }
-    ensures rows { IfOk result (λ _. node.new.program.rows ≡ node.old.program.rows) }
+    requires node { IsNodeLp instance.now path.now.conditions node.now }
+    requires clean { IsClean node.now.program }
+    ensures { IfOk result (IsLook instance.now path.now.conditions node.now) }
 {
     bound_is_below();
-    node.solve(alloc)?;
     let closing = node.closing(alloc, path)?;
     let bound = bound(instance, path, &closing);
     Ok(Look { closing, bound })

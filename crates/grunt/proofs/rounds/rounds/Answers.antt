@@ -1,4 +1,4 @@
-use Rattle.std.proofs.Common.{◌≡◌, ◌<◌, true, sym, ap, subst, ◌∙◌, arith}
+use Rattle.std.proofs.Common.{◌≡◌, ◌<◌, true, false, sym, ap, subst, ◌∙◌, arith}
 use Rattle.simplex.specs.Lp.{Program}
 use Rattle.nodelp.specs.Node.{Node, IsClean}
 use Rattle.grunt.specs.Rounds.{HasGrown}
@@ -9,7 +9,12 @@ pub loop-alloc-init : goal.loop-alloc-init
 loop-alloc-init g c = begun_ready c.args.instance.now c.args.path.now.conditions c.args.node.now c.requires.begun
 
 pub grow-requires-clause-clean : goal.grow-requires-clause-clean
-grow-requires-clause-clean g c = subst (λ (m : Node). IsClean m.program) (sym (c.in_ok-purge.ensures.same c.if-branch.false)) c.in_ok-newest.ensures.look.clean
+grow-requires-clause-clean g c = subst (λ (m : Node). IsClean m.program) (sym (c.in_ok-purge.ensures.same c.if-branch.false)) c.in_ok-solve.ensures.clean
+
+pub newest_look-requires-clause-clean : goal.newest_look-requires-clause-clean
+newest_look-requires-clause-clean g c =
+    let none : c.in_ok-grow.field-0 ≡ false = grind (arith, c.if-not-branch.true) in
+    subst (λ (m : Node). IsClean m.program) (sym (c.in_ok-grow.ensures.same none ∙ c.in_ok-purge.ensures.same c.if-branch.false)) c.in_ok-solve.ensures.clean
 
 pub loop-alloc-preserved : goal.loop-alloc-preserved
 loop-alloc-preserved g c =
@@ -21,5 +26,5 @@ loop-alloc-preserved g c =
     let test = c.loop-alloc-test.true in
     let few : before.program.rounds < 199 = omega (arith, now, test) in
     let more : c.in_ok-grow.field-0 ≡ true = grind (arith, c.if-not-branch.false) in
-    grown_ready i path before c.solved.new.node c.grow.new.node c.loop-alloc.invariant few c.in_ok-newest.ensures.rounds c.in_ok-newest.ensures.rows
+    grown_ready i path before c.solve.new.node c.grow.new.node c.loop-alloc.invariant few c.in_ok-solve.ensures.rounds c.in_ok-solve.ensures.rows
     (subst (λ (m : Node). HasGrown i path m c.grow.new.node) same (c.in_ok-grow.ensures.grown more))
