@@ -51,9 +51,12 @@ prepare() {
 }
 # runs the words with the allocation of that number refused, 0 for none; sets status, text and count
 run() {
-    text=$(cd "$work/at" && FAIL_ALLOC=$1 FAIL_ALLOC_COUNT=$work/count LD_PRELOAD=$work/fail.so timeout 120 "${@:2}" 2>"$work/errors" </dev/null; echo "status $?")
+    rm -f "$work/count"
+    # (by env, so that the allocations of `timeout` are neither counted nor refused)
+    text=$(cd "$work/at" && timeout 120 env FAIL_ALLOC="$1" FAIL_ALLOC_COUNT="$work/count" LD_PRELOAD="$work/fail.so" "${@:2}" 2>"$work/errors" </dev/null; echo "status $?")
     status=${text##*status }
-    count=$(cat "$work/count" 2>/dev/null || echo 0)
+    count=$(od -An -td8 "$work/count" 2>/dev/null | tr -d ' ')
+    count=${count:-0}
 }
 # whether what a run left is what the run with all its memory left: an accepted proof, or no file that was not there before
 left() {
