@@ -7,6 +7,7 @@ mod answer;
 mod cells;
 mod check;
 mod column;
+mod leap;
 mod numbers;
 mod piece;
 mod place;

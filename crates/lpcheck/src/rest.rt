@@ -3,7 +3,8 @@
 //! From any duals, one row after the other takes the best step of its dual by a power of two, until no row has one that
 //! raises the lower side by 2^10 units. Each step raises the lower side, which the sizes bound, so this ends; the reduced
 //! costs of the columns are kept in step, so a visit of a row costs O(104 * cells of the row). Where a program has no
-//! feasible values the lower side grows without a bound of its own: such duals serve as a ray.
+//! feasible values the lower side grows without a bound of its own: such duals serve as a ray. So that they come to their greatest size
+//! soon, the duals leap after each sweep.
 ghost use Rattle.std.specs.Prelude.{◌≡◌, ◌≤◌, ◌<◌, ◌^◌, length, map, pos, ◌+ℤ◌, ◌≤ℤ◌, All, IfOk, OnOk, IsTrue, false, slice_index_or};
 ghost use Rattle.lpcheck.specs.declared.row.Row.{Row as TheRow};
 ghost use Rattle.lpcheck.specs.Sizes.{IsWithin};
@@ -12,6 +13,7 @@ ghost use Rattle.lpcheck.specs.Rests.{AreDuals, RowRests, AreAtRest};
 ghost use Rattle.lpcheck.specs.Cells.{table_of};
 
 use crate::check::{low_of, worth_of};
+use crate::leap::leap;
 use crate::numbers::plus;
 use crate::place::Place;
 use crate::reduced::lower;
@@ -103,7 +105,7 @@ fn sweep(
     Ok(any)
 }
 
-/// Moves the duals, one at a time, until they are at rest.
+/// Moves the duals, one at a time, until they are at rest; after each sweep they go on the way that it took, as far as that pays.
 pub fn settle(
     alloc: Global,
     table: &[Cells],
@@ -125,8 +127,10 @@ pub fn settle(
 {
     loop {
         let _low = lower_of(rows, cols, ys, rs);
+        let from = Vec::from_slice(alloc, ys)?;
         if !sweep(alloc, table, rows, cols, ys, rs)? {
             return Ok(());
         }
+        leap(alloc, table, rows, cols, &from, ys, rs)?;
     }
 }
