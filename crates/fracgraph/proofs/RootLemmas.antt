@@ -88,6 +88,61 @@ module _ (ps : List ℕ) (a b : ℕ) (fall : ParentsFall ps) (order : a < b) (wi
       (λ (ne : c ≡ b → ⊥). let same = at_other c ne in let f = fall c below in omega arith)
       (cases_eq c b)
 
+-- one city put right under its root
+module _ (ps : List ℕ) (k m : ℕ) (fall : ParentsFall ps) (within : k < length ps) (is : m ≡ root_of ps k) (least : m ≤ k) (m_own : slice_index ps m ≡ m) where
+  abbrev shorter : List ℕ
+  shorter = set ps k m
+
+  at_k : slice_index shorter k ≡ m
+  at_k = get_or-set_same ps k m 0 within
+
+  at_apart : (c : ℕ) → (c ≡ k → ⊥) → slice_index shorter c ≡ slice_index ps c
+  at_apart c ne = get_or-set_other ps k c m 0 ne
+
+  short_here : (j c : ℕ) → c ≡ k → c ≤ suc j → root_within (suc j) shorter c ≡ root_within (suc j) ps c
+  short_here j c e h =
+      let was : root_within (suc j) ps c ≡ m = ap (root_within (suc j) ps) e ∙ (enough (suc j) k ps k fall within (omega arith) (omega arith) ∙ sym is) in
+      let up : slice_index shorter c ≡ m = ap (slice_index shorter) e ∙ at_k in
+      ⊎_elim
+      (λ (own : m ≡ k). step_root (suc j) shorter c (up ∙ (own ∙ sym e)) ∙ (e ∙ (sym own ∙ sym was)))
+      (λ (other : m ≡ k → ⊥).
+      let still : slice_index shorter m ≡ m = at_apart m other ∙ m_own in
+      step_on j shorter c (λ s. other (sym up ∙ (s ∙ e)))
+      ∙ (ap (root_within j shorter) up
+      ∙ (step_root j shorter m still ∙ sym was)))
+      (cases_eq m k)
+
+  short_within : (j c : ℕ) → c < length ps → c ≤ j → root_within j shorter c ≡ root_within j ps c
+  short_within zero c below h = refl
+  short_within (suc j) c below h = ⊎_elim
+      (λ (e : c ≡ k). short_here j c e h)
+      (λ (ne : c ≡ k → ⊥). let same = at_apart c ne in ⊎_elim
+      (λ (own : slice_index ps c ≡ c). step_root (suc j) shorter c (same ∙ own) ∙ sym (step_root (suc j) ps c own))
+      (λ (up : slice_index ps c ≡ c → ⊥).
+      let f = fall c below in
+      step_on j shorter c (λ s. up (sym same ∙ s))
+      ∙ (ap (root_within j shorter) same
+      ∙ (short_within j (slice_index ps c) (omega arith) (omega arith)
+      ∙ sym (step_on j ps c up))))
+      (cases_eq (slice_index ps c) c))
+      (cases_eq c k)
+
+  pub short_roots : (c : ℕ) → c < length ps → root_of shorter c ≡ root_of ps c
+  short_roots c below = short_within c c below (omega arith)
+
+  pub short_fall : (c : ℕ) → c < length ps → slice_index shorter c ≤ c
+  short_fall c below = ⊎_elim
+      (λ (e : c ≡ k). let up = ap (slice_index shorter) e ∙ at_k in omega arith)
+      (λ (ne : c ≡ k → ⊥). let same = at_apart c ne in let f = fall c below in omega arith)
+      (cases_eq c k)
+
+  pub short_own : (c : ℕ) → slice_index ps c ≡ c → slice_index shorter c ≡ c
+  short_own c own = ⊎_elim
+      (λ (e : c ≡ k). let here : slice_index ps k ≡ k = ap (slice_index ps) (sym e) ∙ (own ∙ e) in
+      ap (slice_index shorter) e ∙ (at_k ∙ (is ∙ (root_own ps k here ∙ sym e))))
+      (λ (ne : c ≡ k → ⊥). at_apart c ne ∙ own)
+      (cases_eq c k)
+
 -- two roots made one
 pub merged_roots : (ps : List ℕ) (a b : ℕ) → ParentsFall ps → (a ≡ b → ⊥) → a < length ps → b < length ps → slice_index ps a ≡ a → slice_index ps b ≡ b
     → (c : ℕ) → c < length ps → root_of (set ps (max a b) (min a b)) c ≡ merged a b (root_of ps c)

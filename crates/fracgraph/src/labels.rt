@@ -33,7 +33,8 @@ fn own_parents(alloc: Global, n: u32) -> Result<Vec<u32>, AllocError>
     Ok(parents)
 }
 
-/// Makes one tree of those of two cities, under the lesser root. O(depth of the two).
+/// Makes one tree of those of two cities, under the lesser root, and puts each of the two right under the root that it had, so that the
+/// ways up stay short (Tarjan 1975). O(depth of the two).
 fn merge(parents: &mut [u32], u: u32, v: u32)
     requires fall { ParentsFall parents.old }
     requires u_below { u < length parents.old }
@@ -43,9 +44,26 @@ fn merge(parents: &mut [u32], u: u32, v: u32)
 {
     let a = root(parents, u);
     let b = root(parents, v);
+    shorten(parents, u, a);
+    shorten(parents, v, b);
     if a != b {
         parents[a.max(b) as usize] = a.min(b);
     }
+}
+
+/// Puts a city right under its root: no root changes.
+#[tactic(auto, using(crate::proofs::RootLemmas::short_roots, crate::proofs::RootLemmas::short_fall, crate::proofs::RootLemmas::short_own))]
+fn shorten(parents: &mut [u32], city: u32, root: u32)
+    requires fall { ParentsFall parents.old }
+    requires below { city < length parents.old }
+    requires root { root ≡ root_of parents.old city }
+    requires least { root ≤ city }
+    requires own { slice_index parents.old root ≡ root }
+    ensures fall { ParentsFall parents.new }
+    ensures roots { (c : ℕ) → c < length parents.old → root_of parents.new c ≡ root_of parents.old c }
+    ensures own { (c : ℕ) → slice_index parents.old c ≡ c → slice_index parents.new c ≡ c }
+{
+    parents[city as usize] = root;
 }
 
 /// The root of a city's tree.
