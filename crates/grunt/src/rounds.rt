@@ -31,7 +31,7 @@ use tspinst::Instance;
 pub(crate) const ROUNDS: u32 = 200;
 
 /// One length, in units.
-const SCALE: i128 = 1 << 20;
+pub(crate) const SCALE: i128 = 1 << 20;
 
 /// How often cuts are taken off at most.
 const PURGES: u32 = 20;

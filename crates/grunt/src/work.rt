@@ -5,7 +5,7 @@ ghost use Rattle.worker.specs.Works.{BeginsAt, IsWork, SplitsOnly, IsSplitting, 
 ghost use Rattle.grunt.specs.Whys.{IsExplained};
 
 use crate::efforts::effort_of;
-use crate::rounds::{Look, rounds};
+use crate::rounds::{Look, SCALE, rounds};
 use crate::splits::settle;
 use crate::starts::{Start, Starts, begin};
 use branchx::Path;
@@ -17,9 +17,6 @@ use std::alloc::{AllocError, Global};
 use std::sync::{Arc, Mutex};
 use tspinst::Instance;
 use worker::{Work, Worker, first_look, level, paths_are_short};
-
-/// One length, in units.
-const SCALE: i128 = 0x10_0000;
 
 /// The worker that closes a node by the duals of a linear program, and splits it only where that is solved to the end.
 ///
