@@ -22,8 +22,3 @@ pub use pool::{CutPool, Placed};
 pub use seat::{Seat, Seated, SharedPool};
 pub use sharing::{CutBox, NoCuts};
 pub use sifting::worth_adding;
-
-#[cfg(test)]
-mod seat_tests;
-#[cfg(test)]
-mod tests;

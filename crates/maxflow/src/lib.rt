@@ -58,6 +58,3 @@ fn stop_at(alloc: Global, n: u32, t: u32) -> Result<Vec<bool>, AllocError>
     stops[t as usize] = true;
     Ok(stops)
 }
-
-#[cfg(test)]
-mod tests;

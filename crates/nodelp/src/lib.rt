@@ -17,6 +17,3 @@ mod pricing;
 mod rows;
 
 pub use node::NodeLp;
-
-#[cfg(test)]
-mod tests;

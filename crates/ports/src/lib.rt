@@ -33,6 +33,3 @@ pub use record::{SlotCall, SlotEntry};
 pub use room::Room;
 pub use slots::Slots;
 pub use transfer::{ReadError, read_to_end, write_all};
-
-#[cfg(test)]
-mod tests;

@@ -3,8 +3,6 @@
 
 mod bounds;
 mod closing;
-#[cfg(test)]
-mod compared;
 mod decided;
 mod duals;
 mod fitting;
@@ -18,8 +16,6 @@ mod rays;
 mod rounding;
 mod rows;
 mod spread;
-#[cfg(test)]
-mod tests;
 mod trail;
 mod weights;
 

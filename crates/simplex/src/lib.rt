@@ -12,6 +12,3 @@ pub use answer::LpAnswer;
 pub use basis::Basis;
 pub use lp::Lp;
 pub use lpcheck::{Column, Row, Sense};
-
-#[cfg(test)]
-mod tests;

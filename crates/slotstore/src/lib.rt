@@ -20,6 +20,3 @@ mod target;
 pub use body::LoadError;
 pub use laws::nothing_is_lost;
 pub use store::Store;
-
-#[cfg(test)]
-mod tests;

@@ -28,6 +28,3 @@ pub use refusals::{FixError, PairFault, Part, ReadError, Refusal};
 pub use square::from_points;
 pub use table::Instance;
 pub use text::read;
-
-#[cfg(test)]
-mod tests;

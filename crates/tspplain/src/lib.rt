@@ -17,8 +17,6 @@ pub mod paths;
 pub mod search;
 pub mod separation;
 pub mod sets;
-#[cfg(test)]
-mod tests;
 pub mod tours;
 pub mod trees;
 pub mod values;

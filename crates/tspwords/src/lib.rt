@@ -18,6 +18,3 @@ pub use words::{
     BenchWords, BoundWords, CheckboundWords, Command, ReplayWords, Solve, TourWords, VerifyWords,
     WordsError,
 };
-
-#[cfg(test)]
-mod tests;
