@@ -110,6 +110,3 @@ fn with_combs(
 fn is_new(handle: &CitySet, seen: &[CitySet]) -> bool {
     handle.cities().len() >= 3 && !seen.iter().any(|other| other.cities() == handle.cities())
 }
-
-#[cfg(test)]
-mod tests;

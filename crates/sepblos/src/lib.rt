@@ -62,6 +62,3 @@ fn blossom(alloc: Global, x: &Frac, handle: &CitySet) -> Result<Option<Cut>, All
     let cut = violated_comb(alloc, x, handle, teeth)?;
     Ok(cut)
 }
-
-#[cfg(test)]
-mod tests;

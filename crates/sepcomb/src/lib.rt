@@ -98,6 +98,3 @@ fn is_large(handle: &CitySet) -> bool
 {
     handle.cities().len() >= 3
 }
-
-#[cfg(test)]
-mod tests;

@@ -58,8 +58,3 @@ pub fn least_odd(alloc: Global, x: &Frac) -> Result<Option<OddCut>, AllocError>
         cut,
     }))
 }
-
-#[cfg(test)]
-mod plain;
-#[cfg(test)]
-mod tests;

@@ -77,6 +77,3 @@ fn swept_to(alloc: Global, x: &Frac, reach: u64) -> Result<Swept, AllocError>
     let shrunk = shrink(alloc, x)?;
     unions::swept(alloc, x, shrunk, reach)
 }
-
-#[cfg(test)]
-mod tests;

@@ -1,7 +1,7 @@
 //! A plain program for the least odd cut, through all handles: what tests compare with.
 
-use crate::SCALE;
 use cyc::Frac;
+use sepodd::SCALE;
 
 /// The least weight over all odd cuts whose handle has city 0: of each handle as bits, and for each parity of the pairs that are chosen
 /// among those that cross it. The greatest number where there is no odd cut. For at most ten cities.

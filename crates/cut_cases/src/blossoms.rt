@@ -1,6 +1,6 @@
-use crate::{blossoms, wider_blossoms};
 use cutform::Cut;
 use cyc::{Entry, Frac};
+use sepblos::{blossoms, wider_blossoms};
 use std::alloc::{AllocError, Global};
 use std::test::Fail;
 use tspplain::bits::bits_of;

@@ -1,6 +1,6 @@
-use crate::combs;
 use cutform::Cut;
 use cyc::{Entry, Frac};
+use sepcomb::combs;
 use std::alloc::{AllocError, Global};
 use std::test::Fail;
 use tspplain::bits::bits_of;

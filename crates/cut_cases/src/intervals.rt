@@ -1,6 +1,6 @@
-use crate::interval_combs;
 use cutform::Cut;
 use cyc::{CitySet, Entry, Frac, Tour};
+use intervalcombs::interval_combs;
 use std::alloc::{AllocError, Global};
 use std::test::Fail;
 use tspplain::bits::bits_of;

@@ -1,5 +1,6 @@
-use super::*;
-use cyc::Entry;
+use cyc::{Entry, Frac};
+use sepsub::{LIGHT, least_set, sweep};
+use std::alloc::Global;
 use std::test::Fail;
 use tspplain::bits::bits_of;
 use tspplain::drawn::loose_values;

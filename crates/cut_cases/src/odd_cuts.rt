@@ -1,7 +1,8 @@
 ghost use Rattle.std.specs.Prelude.{◌≤◌};
 
-use crate::{OddCut, SCALE, is_relaxed, least_odd, plain};
+use crate::plain;
 use cyc::{Entry, Frac};
+use sepodd::{OddCut, SCALE, is_relaxed, least_odd};
 use std::alloc::{AllocError, Global};
 use std::test::Fail;
 use tspplain::drawn::next;

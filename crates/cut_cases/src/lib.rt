@@ -1,0 +1,18 @@
+//! Tests of the searches for cuts: each on worked values, and on drawn ones beside a plain program.
+//!
+//! There is nothing to use here. The tests stand beside the crates of the searches and not in them, so that each is proved once: a
+//! crate with tests in it is proved a second time with them.
+#![tactic(auto)]
+
+#[cfg(test)]
+mod blossoms;
+#[cfg(test)]
+mod combs;
+#[cfg(test)]
+mod intervals;
+#[cfg(test)]
+mod odd_cuts;
+#[cfg(test)]
+mod plain;
+#[cfg(test)]
+mod subtours;
