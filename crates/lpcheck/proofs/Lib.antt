@@ -5,3 +5,4 @@ mod Sums
 mod Changes
 mod BestSteps
 mod Sweeps
+mod CodeLemmas

@@ -6,6 +6,7 @@ mod added;
 mod answer;
 mod cells;
 mod check;
+mod codes;
 mod column;
 mod leap;
 mod numbers;
