@@ -1,7 +1,7 @@
 //! Leaps of settling duals.
 //!
 //! Where a program has no feasible values, steps of one dual at a time can climb with no end in sight: duals that hold each other go up
-//! by turns, each by as little as the others let it. So after a sweep the duals go on the way that it took, twice as far each time, as
+//! by turns, each by as little as the others let it. So now and then all duals go on the way that they took, twice as far each time, as
 //! long as that raises the lower side.
 ghost use Rattle.std.specs.Prelude.{◌≡◌, ◌≤◌, ◌<◌, length, map, ◌≤ℤ◌, All, IfOk};
 ghost use Rattle.lpcheck.specs.Rows.{reduced, lower_side, IsSmall, IsCheap};

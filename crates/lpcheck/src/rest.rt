@@ -4,7 +4,7 @@
 //! raises the lower side by 2^10 units. Each step raises the lower side, which the sizes bound, so this ends; the reduced
 //! costs of the columns are kept in step, so a visit of a row costs O(104 * cells of the row). Where a program has no
 //! feasible values the lower side grows without a bound of its own: such duals serve as a ray. So that they come to their greatest size
-//! soon, the duals leap after each sweep.
+//! soon, the duals leap now and then.
 ghost use Rattle.std.specs.Prelude.{◌≡◌, ◌≤◌, ◌<◌, ◌^◌, length, map, pos, ◌+ℤ◌, ◌≤ℤ◌, All, IfOk, OnOk, IsTrue, false, slice_index_or};
 ghost use Rattle.lpcheck.specs.declared.row.Row.{Row as TheRow};
 ghost use Rattle.lpcheck.specs.Sizes.{IsWithin};
@@ -105,7 +105,8 @@ fn sweep(
     Ok(any)
 }
 
-/// Moves the duals, one at a time, until they are at rest; after each sweep they go on the way that it took, as far as that pays.
+/// Moves the duals, one at a time, until they are at rest. After the first sweep, the second, the fourth and so on they leap along the way
+/// that they took since the last leap, as far as that pays: on a long way what they do by turns evens out.
 pub fn settle(
     alloc: Global,
     table: &[Cells],
@@ -125,12 +126,17 @@ pub fn settle(
     ensures costs { rs.new ≡ map (reduced rows.now ys.new) cols.now }
     ensures rests { OnOk result (AreAtRest rows.now cols.now ys.new) }
 {
+    let mut from = Vec::from_slice(alloc, ys)?;
+    let mut sweeps: u64 = 0;
     loop {
         let _low = lower_of(rows, cols, ys, rs);
-        let from = Vec::from_slice(alloc, ys)?;
         if !sweep(alloc, table, rows, cols, ys, rs)? {
             return Ok(());
         }
-        leap(alloc, table, rows, cols, &from, ys, rs)?;
+        sweeps = sweeps.saturating_add(1);
+        if sweeps.is_power_of_two() {
+            leap(alloc, table, rows, cols, &from, ys, rs)?;
+            from = Vec::from_slice(alloc, ys)?;
+        }
     }
 }
