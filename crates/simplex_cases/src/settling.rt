@@ -8,12 +8,12 @@ use lpcheck::{Column, Row, Sense, grow_table, judge};
 use std::alloc::{AllocError, Global};
 use std::test::Fail;
 
-/// A row of the pairs that cross the first two of four cities.
-fn row(alloc: Global, sense: Sense, rhs: u32) -> Result<Row, Fail>
+/// A row of the pairs that cross some of four cities.
+fn row(alloc: Global, sense: Sense, rhs: u32, cities: &[u32]) -> Result<Row, Fail>
     ensures { IfOk result IsSmall }
 {
     let mut sets = Vec::new(alloc);
-    sets.push(CitySet::new(alloc, 4, vec![in alloc; 0, 1]?)?)?;
+    sets.push(CitySet::new(alloc, 4, Vec::from_slice(alloc, cities)?)?)?;
     Ok(Row { sense, rhs, sets })
 }
 
@@ -23,8 +23,22 @@ fn contradicting(alloc: Global) -> Result<Vec<Row>, Fail>
     ensures two { IfOk result (λ rows. length rows.items ≡ 2) }
 {
     let mut rows = Vec::new(alloc);
-    rows.push(row(alloc, Sense::AtMost, 2)?)?;
-    rows.push(row(alloc, Sense::AtLeast, 4)?)?;
+    rows.push(row(alloc, Sense::AtMost, 2, &[0, 1])?)?;
+    rows.push(row(alloc, Sense::AtLeast, 4, &[0, 1])?)?;
+    Ok(rows)
+}
+
+/// Two pairs at each city, and four that cross a set of two of them.
+fn crossed(alloc: Global) -> Result<Vec<Row>, Fail>
+    ensures small { IfOk result (λ rows. All IsSmall rows.items) }
+    ensures five { IfOk result (λ rows. length rows.items ≡ 5) }
+{
+    let mut rows = Vec::new(alloc);
+    rows.push(row(alloc, Sense::Eq, 2, &[0])?)?;
+    rows.push(row(alloc, Sense::Eq, 2, &[1])?)?;
+    rows.push(row(alloc, Sense::Eq, 2, &[2])?)?;
+    rows.push(row(alloc, Sense::Eq, 2, &[3])?)?;
+    rows.push(row(alloc, Sense::AtLeast, 4, &[0, 2])?)?;
     Ok(rows)
 }
 
@@ -75,5 +89,30 @@ fn duals_of_rows_that_contradict_each_other_come_to_rest_at_once(
     let judged = judge(alloc, &table, &rows, &cols, &[0; 4], &mut ys)?;
     assert!(rt; !judged.is_good);
     assert!(rt; judged.gap < -(1 << 62));
+    Ok(())
+}
+
+/// A pair is used that leaves too few for the set: the way of one sweep leads nowhere, and that of a few does.
+#[test]
+fn duals_leap_along_the_way_of_several_sweeps(rt: HostRuntime) -> Result<(), Fail> {
+    let alloc = rt.alloc();
+    let rows = crossed(alloc)?;
+    let used = Column {
+        must: true,
+        ..column(1, 3, 2)
+    };
+    let cols = [
+        column(0, 1, 14),
+        column(0, 2, 32),
+        column(0, 3, 34),
+        column(1, 2, 37),
+        used,
+        column(2, 3, 11),
+    ];
+    let table = grow_table(alloc, Vec::new(alloc), &rows, &cols, 0)?;
+    let mut ys = zeros(alloc, &rows)?;
+    let judged = judge(alloc, &table, &rows, &cols, &[0; 6], &mut ys)?;
+    assert!(rt; !judged.is_good);
+    assert!(rt; judged.gap < 0);
     Ok(())
 }
