@@ -15,6 +15,3 @@ pub use branch::Branch;
 pub use choice::choose;
 pub use cond::Cond;
 pub use path::{Path, decided, is_new};
-
-#[cfg(test)]
-mod tests;

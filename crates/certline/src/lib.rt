@@ -11,6 +11,3 @@ mod lists;
 mod shapes;
 
 pub use item::{Item, read_line};
-
-#[cfg(test)]
-mod tests;

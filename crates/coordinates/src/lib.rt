@@ -11,6 +11,3 @@ mod points;
 mod reading;
 
 pub use reading::{Mapped, ReadError, read};
-
-#[cfg(test)]
-mod tests;

@@ -14,6 +14,3 @@ mod pairs;
 
 pub use cut::{Cut, Kind};
 pub use error::CutError;
-
-#[cfg(test)]
-mod tests;

@@ -10,6 +10,3 @@ mod tour;
 pub use city_set::{CitySet, CitySetError};
 pub use frac::{Entry, Frac, FracError, sums_go_by_entries};
 pub use tour::{Tour, TourError};
-
-#[cfg(test)]
-mod tests;

@@ -9,6 +9,3 @@ mod places;
 mod tour;
 
 pub use tour::ArrayTour;
-
-#[cfg(test)]
-mod tests;

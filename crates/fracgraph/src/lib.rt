@@ -34,6 +34,3 @@ pub fn components(alloc: Global, x: &Frac, low: u32, high: u32) -> Result<Vec<Ci
     }
     Ok(sets)
 }
-
-#[cfg(test)]
-mod tests;

@@ -18,6 +18,3 @@ pub fn logs_replay()
     ensures entries { EntriesAct }
     ensures leases { LeasesStandAlone }
 {}
-
-#[cfg(test)]
-mod tests;

@@ -12,6 +12,3 @@ mod walk;
 
 pub use lists::{Neigh, nearest};
 pub use walk::{nearest_walk, tours_exist};
-
-#[cfg(test)]
-mod tests;

@@ -39,6 +39,3 @@ pub fn find_opening(alloc: Global, instance: &Instance, seed: u64) -> Result<Ope
     let tour = improve(alloc, instance, &near, &walk, n, seed)?;
     Ok(Opening { near, tour })
 }
-
-#[cfg(test)]
-mod tests;

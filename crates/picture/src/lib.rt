@@ -20,6 +20,3 @@ pub use scale::on_plane;
 pub use strip::bars;
 pub use text::{Drawing, draw};
 pub use tree::{Census, Node, depths, take_census};
-
-#[cfg(test)]
-mod tests;

@@ -13,6 +13,3 @@ mod line;
 pub use gate::Progress;
 pub use how::{How, choose, is_asked};
 pub use line::{Standing, bound_of, text};
-
-#[cfg(test)]
-mod tests;

@@ -47,6 +47,3 @@ pub fn print(alloc: Global, tour: &Tour) -> Result<String, AllocError>
     text.push_str("-1\nEOF\n")?;
     Ok(text)
 }
-
-#[cfg(test)]
-mod tests;

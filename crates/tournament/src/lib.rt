@@ -12,9 +12,6 @@ ghost use Rattle.tournament.specs.Entries.{AreMadeBut, IsFirstOf, IsNumbered};
 use std::alloc::{AllocError, Global};
 use std::marker::Model;
 
-#[cfg(test)]
-mod tests;
-
 /// A number that takes part, with its key.
 #[derive(Clone, Copy, Debug)]
 pub(crate) struct Candidate {

@@ -17,6 +17,3 @@ mod walk;
 pub use laws::{tables_are_sound, tables_are_trees, tables_cover, tables_grow};
 pub use node::State;
 pub use tree::Tree;
-
-#[cfg(test)]
-mod tests;

@@ -17,6 +17,3 @@ mod texts;
 
 pub use running::run_view;
 pub use statuses::ViewStatus;
-
-#[cfg(test)]
-mod tests;

@@ -22,6 +22,3 @@ pub use laws::kept_is_the_last_line;
 pub use rows::{Row, StatusRow, Tables};
 pub use table::TABLES;
 pub use telling::tell;
-
-#[cfg(test)]
-mod tests;

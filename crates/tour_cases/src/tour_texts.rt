@@ -1,5 +1,6 @@
-use super::*;
+use cyc::Tour;
 use std::test::Fail;
+use tourfmt::print;
 
 #[test]
 fn the_text_of_a_square(rt: HostRuntime) -> Result<(), Fail> {

@@ -1,12 +1,12 @@
 //! Each refusal and what is said of it, by the table of docs/FORMATS.md; and what a desk keeps.
 
-use crate::{KeepingDesk, Subject, TABLES, explain, tell};
 use ports::{Desk, Inlet, MemDesk, Outlet, Room, write_all};
 use std::alloc::{AllocError, Global};
 use std::fmt::Display;
 use std::io;
 use std::sync::atomic::{AtomicU64, Ordering};
 use std::test::Fail;
+use wording::{KeepingDesk, Subject, TABLES, explain, tell};
 
 /// A printed line, and how its words begin. Each refusal of an instance, a proof and a restart body, and each usage.
 const LINES: &[(&str, &str)] = &[

@@ -1,6 +1,6 @@
 ghost use Rattle.std.specs.Prelude.{◌≡◌, ◌≤◌, IfOk};
 
-use crate::{Branch, Cond, Path, choose, decided, is_new};
+use branchx::{Branch, Cond, Path, choose, decided, is_new};
 use cyc::{CitySet, Entry, Frac};
 use std::alloc::Global;
 use std::test::Fail;

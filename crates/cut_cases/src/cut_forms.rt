@@ -1,6 +1,6 @@
 ghost use Rattle.std.specs.Prelude.{◌≤◌};
 
-use crate::{Cut, CutError, Kind};
+use cutform::{Cut, CutError, Kind};
 use cyc::CitySet;
 use std::alloc::Global;
 use std::collections::HashSet;

@@ -1,4 +1,4 @@
-use super::*;
+use cyc::{CitySet, CitySetError, Entry, Frac, FracError, Tour, TourError};
 use std::alloc::Global;
 use std::test::Fail;
 

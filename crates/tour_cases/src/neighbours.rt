@@ -1,5 +1,5 @@
-use super::*;
 use distx::{Kind, Point};
+use neigh::{Neigh, nearest, nearest_walk};
 use std::alloc::Global;
 use std::test::Fail;
 use tspinst::{Instance, from_points};

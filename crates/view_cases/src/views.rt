@@ -1,10 +1,10 @@
 //! Runs of the viewer over a desk in memory. The pictures and the lines are worked out by hand.
 ghost use Rattle.std.specs.Prelude.{◌<◌};
 
-use crate::{ViewStatus, run_view};
 use ports::{Inlet, MemDesk, Room};
 use std::alloc::{AllocError, Global};
 use std::test::Fail;
+use viewing::{ViewStatus, run_view};
 
 const SQUARE: &str =
     "NAME : square\nTYPE : TSP\nDIMENSION : 4\nEDGE_WEIGHT_TYPE : EUC_2D\nNODE_COORD_SECTION\n1 0 0\n2 0 10\n3 10 10\n4 10 0\nFIXED_EDGES_SECTION\n2 3\n-1\nEOF\n";

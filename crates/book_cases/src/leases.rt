@@ -1,5 +1,5 @@
 //! Worked tables.
-use crate::{Entry, LeaseFate, LeaseTable};
+use leasebook::{Entry, LeaseFate, LeaseTable};
 use std::test::Fail;
 
 #[test]

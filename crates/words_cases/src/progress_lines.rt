@@ -1,6 +1,6 @@
 //! The line's text, and when a gate prints one.
-use crate::{How, Progress, Standing, text};
 use ports::{Gate, Point};
+use progress::{How, Progress, Standing, text};
 use std::alloc::AllocError;
 use std::fmt::Display;
 use std::io;

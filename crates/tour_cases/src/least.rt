@@ -1,5 +1,5 @@
-use crate::Tournament;
 use std::test::Fail;
+use tournament::Tournament;
 
 #[test]
 fn the_least_key_comes_first(rt: HostRuntime) -> Result<(), Fail> {

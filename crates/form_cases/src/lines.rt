@@ -1,6 +1,6 @@
 //! Lines and what they say.
 
-use crate::{Item, read_line};
+use certline::{Item, read_line};
 use std::test::Fail;
 
 #[test]

@@ -1,12 +1,12 @@
 //! Worked trees.
 ghost use Rattle.std.specs.Prelude.{◌≡◌, IfOk};
 
-use crate::{State, Tree};
 use branchx::{Branch, Cond};
 use cyc::CitySet;
 use distx::{Kind, Point};
 use pricer::{Closing, Fit};
 use std::test::Fail;
+use treebook::{State, Tree};
 use tspinst::from_points;
 
 #[test]

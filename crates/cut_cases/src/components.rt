@@ -1,5 +1,5 @@
-use crate::components;
 use cyc::{CitySet, Entry, Frac};
+use fracgraph::components;
 use std::alloc::{AllocError, Global};
 use std::test::Fail;
 

@@ -1,5 +1,5 @@
-use super::*;
 use cyc::Tour;
+use flips::ArrayTour;
 use std::alloc::Global;
 use std::test::Fail;
 

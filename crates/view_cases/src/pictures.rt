@@ -1,9 +1,9 @@
 //! Pictures, worked out by hand.
 
-use crate::{
+use distx::Point;
+use picture::{
     Bar, Census, Drawing, Layout, Node, Spot, bars, depths, draw, on_circle, on_plane, take_census,
 };
-use distx::Point;
 use std::alloc::AllocError;
 use std::test::Fail;
 

@@ -1,6 +1,6 @@
 //! Points of texts, by hand.
 
-use crate::{ReadError, read};
+use coordinates::{ReadError, read};
 use distx::Point;
 use std::alloc::{AllocError, Global};
 use std::test::Fail;

@@ -1,7 +1,10 @@
-use super::*;
+use cyc::Tour;
 use distx::{Kind, Point};
+use neigh::nearest_walk;
+use opening::find_opening;
+use std::alloc::{AllocError, Global};
 use std::test::Fail;
-use tspinst::from_points;
+use tspinst::{Instance, from_points};
 
 /// The next of some numbers that look drawn.
 fn next(state: u64) -> u64 {
