@@ -5,9 +5,9 @@
 #![tactic(auto)]
 
 #[cfg(test)]
-mod cities;
+mod array_tours;
 #[cfg(test)]
-mod flips;
+mod cities;
 #[cfg(test)]
 mod least;
 #[cfg(test)]
