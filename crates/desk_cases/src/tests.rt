@@ -303,6 +303,8 @@ fn slots_over_real_files(rt: HostRuntime) -> Result<(), Fail> {
     assert_eq!(rt; again.read_at(1, 0, &mut buf), Ok(5));
     assert_eq!(rt; buf, *b"x\0abc\0\0\0");
     assert_eq!(rt; again.read_at(1, 5, &mut buf), Ok(0));
+    // the last place of all, to which no file reaches and the system does not go
+    assert_eq!(rt; again.read_at(1, u64::MAX, &mut buf), Ok(0));
     assert_eq!(rt; (slots.faults(), again.faults()), (1, 0));
 
     slots.bind("no_such_folder/slots")?;

@@ -81,7 +81,16 @@ fn seek<F: Seek>(file: &mut Option<F>, pos: u64) -> Result<(), Failed> {
     }
 }
 
-/// Reads the bytes at a place. A missing file is an empty slot.
+/// Whether a file that is there ends at a place or before it.
+fn ends_before<F: Seek>(file: &mut Option<F>, pos: u64) -> bool {
+    match file {
+        Some(file) => matches!(file.seek(SeekFrom::End(0)), Ok(end) if end <= pos),
+        None => false,
+    }
+}
+
+/// Reads the bytes at a place. A missing file is an empty slot. The system goes to no place that is past its longest files, and there no
+/// file has bytes.
 pub fn read_at<R: Files>(
     rt: &R,
     slot: &mut SlotFile<R::File>,
@@ -94,7 +103,13 @@ pub fn read_at<R: Files>(
     if slot.file.is_none() {
         return Ok(0);
     }
-    seek(&mut slot.file, pos)?;
+    if seek(&mut slot.file, pos).is_err() {
+        return if ends_before(&mut slot.file, pos) {
+            Ok(0)
+        } else {
+            Err(Failed)
+        };
+    }
     read_some(&mut slot.file, buf)
 }
 
