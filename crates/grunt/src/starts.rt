@@ -159,6 +159,22 @@ impl Start {
         })
     }
 
+    /// A start that says what it is told to, true or not.
+    #[cfg(test)]
+    pub(crate) fn saying(
+        pairs: Vec<(u32, u32)>,
+        basic: Vec<u64>,
+        slacks: Vec<bool>,
+        cuts: Vec<Cut>,
+    ) -> Start {
+        Start {
+            pairs,
+            basic,
+            slacks,
+            cuts,
+        }
+    }
+
     /// How many cities its sets have, and pairs beside them.
     fn size(&self) -> usize {
         let mut size = self.pairs.len();

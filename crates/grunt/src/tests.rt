@@ -355,6 +355,115 @@ fn a_start_of_another_node_costs_time_alone(rt: HostRuntime) -> Result<(), Fail>
     Ok(())
 }
 
+/// Numbers that look random (a linear congruence modulo 2^64, its high bits).
+fn next(state: &mut u64, below: u64) -> u64 {
+    *state = state
+        .wrapping_mul(6_364_136_223_846_793_005)
+        .wrapping_add(1_442_695_040_888_963_407);
+    (*state >> 33) % below.max(1)
+}
+
+/// Pairs that are drawn of more cities than there are, some of one city twice.
+fn drawn_pairs(alloc: Global, state: &mut u64) -> Result<Vec<(u32, u32)>, AllocError> {
+    let mut pairs = Vec::new(alloc);
+    for _ in 0..next(state, 40) {
+        pairs.push((next(state, 12) as u32, next(state, 12) as u32))?;
+    }
+    Ok(pairs)
+}
+
+/// Keys that are drawn, and that need not rise; of pairs that there are, now and then.
+fn drawn_keys(alloc: Global, state: &mut u64) -> Result<Vec<u64>, AllocError> {
+    let mut keys = Vec::new(alloc);
+    for _ in 0..next(state, 30) {
+        keys.push((next(state, 12) << 32) | next(state, 12))?;
+    }
+    Ok(keys)
+}
+
+/// Of more or fewer rows than there are, whether the slack is basic.
+fn drawn_slacks(alloc: Global, state: &mut u64) -> Result<Vec<bool>, AllocError> {
+    let mut slacks = Vec::new(alloc);
+    for _ in 0..next(state, 20) {
+        slacks.push(next(state, 2) == 0)?;
+    }
+    Ok(slacks)
+}
+
+/// Subtour cuts of two cities of six, or of seven.
+fn drawn_cuts(alloc: Global, state: &mut u64) -> Result<Vec<Cut>, Fail> {
+    let mut cuts = Vec::new(alloc);
+    for _ in 0..next(state, 6) {
+        let first = (next(state, 5) as u32).min(4);
+        let n = if next(state, 2) == 0 { 6 } else { 7 };
+        cuts.push(subtour(alloc, n, &[first, first + 1])?)?;
+    }
+    Ok(cuts)
+}
+
+/// A start of which nothing is true.
+fn drawn_start(alloc: Global, state: &mut u64) -> Result<Start, Fail> {
+    let pairs = drawn_pairs(alloc, state)?;
+    let basic = drawn_keys(alloc, state)?;
+    let slacks = drawn_slacks(alloc, state)?;
+    Ok(Start::saying(pairs, basic, slacks, drawn_cuts(alloc, state)?))
+}
+
+/// Whatever a start says, the prism is closed as it is without one: above three lengths.
+#[test]
+fn drawn_starts_cost_time_alone(rt: HostRuntime) -> Result<(), Fail> {
+    let alloc = rt.alloc();
+    let instance = told(alloc, PRISM)?;
+    assert!(rt; instance.n() > 3);
+    let near = nearest(alloc, &instance, 3)?;
+    let path = root_path(alloc, &instance)?;
+    let mut state = 27;
+    for _ in 0..60 {
+        let start = drawn_start(alloc, &mut state)?;
+        let (work, _) = work_from(
+            alloc,
+            &instance,
+            &near,
+            &mut NoCuts,
+            &path,
+            4,
+            1,
+            0,
+            Some(&start),
+        )?;
+        assert!(rt; closes_above(&rt, alloc, &instance, &work, 3 << 20)?);
+    }
+    Ok(())
+}
+
+/// Whatever a start says, Petersen's graph is split as it is without one: where its program is solved, at length 10.
+#[test]
+fn drawn_starts_are_no_reason_to_split(rt: HostRuntime) -> Result<(), Fail> {
+    let alloc = rt.alloc();
+    let instance = told(alloc, PETERSEN)?;
+    assert!(rt; instance.n() > 3);
+    let near = nearest(alloc, &instance, 3)?;
+    let path = root_path(alloc, &instance)?;
+    let mut state = 5;
+    for _ in 0..20 {
+        let start = drawn_start(alloc, &mut state)?;
+        let (work, _) = work_from(
+            alloc,
+            &instance,
+            &near,
+            &mut NoCuts,
+            &path,
+            11,
+            1,
+            0,
+            Some(&start),
+        )?;
+        assert!(rt; is_checked(&work));
+        assert_eq!(rt; work.hint, 10);
+    }
+    Ok(())
+}
+
 #[test]
 fn threads_share_a_worker(rt: HostRuntime) -> Result<(), Fail> {
     let alloc = rt.alloc();
