@@ -356,18 +356,18 @@ fn a_start_of_another_node_costs_time_alone(rt: HostRuntime) -> Result<(), Fail>
 }
 
 /// Numbers that look random (a linear congruence modulo 2^64, its high bits).
-fn next(state: &mut u64, below: u64) -> u64 {
+fn next(state: &mut u64, below: u32) -> u32 {
     *state = state
         .wrapping_mul(6_364_136_223_846_793_005)
         .wrapping_add(1_442_695_040_888_963_407);
-    (*state >> 33) % below.max(1)
+    (*state >> 33) as u32 % below.max(1)
 }
 
 /// Pairs that are drawn of more cities than there are, some of one city twice.
 fn drawn_pairs(alloc: Global, state: &mut u64) -> Result<Vec<(u32, u32)>, AllocError> {
     let mut pairs = Vec::new(alloc);
     for _ in 0..next(state, 40) {
-        pairs.push((next(state, 12) as u32, next(state, 12) as u32))?;
+        pairs.push((next(state, 12), next(state, 12)))?;
     }
     Ok(pairs)
 }
@@ -376,7 +376,8 @@ fn drawn_pairs(alloc: Global, state: &mut u64) -> Result<Vec<(u32, u32)>, AllocE
 fn drawn_keys(alloc: Global, state: &mut u64) -> Result<Vec<u64>, AllocError> {
     let mut keys = Vec::new(alloc);
     for _ in 0..next(state, 30) {
-        keys.push((next(state, 12) << 32) | next(state, 12))?;
+        let u = u64::from(next(state, 12));
+        keys.push((u << 32) | u64::from(next(state, 12)))?;
     }
     Ok(keys)
 }
@@ -394,7 +395,7 @@ fn drawn_slacks(alloc: Global, state: &mut u64) -> Result<Vec<bool>, AllocError>
 fn drawn_cuts(alloc: Global, state: &mut u64) -> Result<Vec<Cut>, Fail> {
     let mut cuts = Vec::new(alloc);
     for _ in 0..next(state, 6) {
-        let first = (next(state, 5) as u32).min(4);
+        let first = next(state, 5).min(4);
         let n = if next(state, 2) == 0 { 6 } else { 7 };
         cuts.push(subtour(alloc, n, &[first, first + 1])?)?;
     }
