@@ -1,8 +1,9 @@
 ghost use Rattle.std.specs.Prelude.{◌≤◌};
 
 use crate::plain;
+use cutform::Cut;
 use cyc::{Entry, Frac};
-use sepodd::{OddCut, SCALE, is_relaxed, least_odd};
+use sepodd::{OddCut, OddCuts, SCALE, is_relaxed, least_odd, odd_cuts};
 use std::alloc::{AllocError, Global};
 use std::test::Fail;
 use tspplain::drawn::next;
@@ -29,6 +30,14 @@ fn least(alloc: Global, x: &Frac) -> Result<Option<OddCut>, AllocError> {
         return Err(AllocError);
     }
     least_odd(alloc, x)
+}
+
+/// What the search for odd cuts finds. Values that are not those of a relaxation fail.
+fn found(alloc: Global, x: &Frac) -> Result<OddCuts, AllocError> {
+    if !is_relaxed(x) {
+        return Err(AllocError);
+    }
+    odd_cuts(alloc, x)
 }
 
 const HALF: u32 = SCALE / 2;
@@ -61,6 +70,17 @@ fn the_odd_cut_of_a_prism(rt: HostRuntime) -> Result<(), Fail> {
 }
 
 #[test]
+fn the_odd_cut_of_a_prism_is_met(rt: HostRuntime) -> Result<(), Fail> {
+    let x = values(rt.alloc(), 6, &PRISM)?;
+    let cuts = found(rt.alloc(), &x)?;
+    match &cuts.least {
+        Some(odd) => assert!(rt; cuts.met.contains(&odd.cut)),
+        None => assert!(rt; false, "no odd cut"),
+    }
+    Ok(())
+}
+
+#[test]
 fn no_odd_cut_on_the_sides_of_a_square(rt: HostRuntime) -> Result<(), Fail> {
     let sides = [(0, 1, SCALE), (1, 2, SCALE), (2, 3, SCALE), (0, 3, SCALE)];
     let x = values(rt.alloc(), 4, &sides)?;
@@ -69,15 +89,15 @@ fn no_odd_cut_on_the_sides_of_a_square(rt: HostRuntime) -> Result<(), Fail> {
 }
 
 /// The weight of an odd cut at some values, by its definition.
-fn weight_of(x: &Frac, odd: &OddCut) -> u64 {
-    let mut weight = u64::from(SCALE).wrapping_mul(odd.cut.pairs().len() as u64);
+fn weight_of(x: &Frac, cut: &Cut) -> u64 {
+    let mut weight = u64::from(SCALE).wrapping_mul(cut.pairs().len() as u64);
     for entry in x.entries() {
-        for handle in odd.cut.sets() {
+        for handle in cut.sets() {
             if handle.contains(entry.u) != handle.contains(entry.v) {
                 weight = weight.wrapping_add(u64::from(entry.x));
             }
         }
-        for (u, v) in odd.cut.pairs() {
+        for (u, v) in cut.pairs() {
             if (*u == entry.u && *v == entry.v) || (*u == entry.v && *v == entry.u) {
                 weight = weight.wrapping_sub(2 * u64::from(entry.x));
             }
@@ -173,7 +193,7 @@ fn odd_cuts_are_the_least_of_a_plain_program(rt: HostRuntime) -> Result<(), Fail
                     positive = positive.wrapping_add(1);
                 }
                 assert_eq!(rt; odd.weight, expected, "at {number}");
-                assert_eq!(rt; weight_of(&x, &odd), expected, "at {number}");
+                assert_eq!(rt; weight_of(&x, &odd.cut), expected, "at {number}");
                 assert!(rt; odd.cut.sets()[0].contains(0), "at {number}");
             }
             None => {
@@ -185,5 +205,49 @@ fn odd_cuts_are_the_least_of_a_plain_program(rt: HostRuntime) -> Result<(), Fail
     assert!(rt; many > 50, "only {many}");
     assert!(rt; none > 50, "only {none} without");
     assert!(rt; positive > 20, "only {positive} above 0");
+    Ok(())
+}
+
+/// Whether each of some odd cuts lacks at least half as much to one length as a weight does.
+fn are_light(x: &Frac, least: u64, cuts: &[Cut]) -> bool {
+    let one = u64::from(SCALE);
+    let mut light = true;
+    for cut in cuts {
+        let lacks = one.saturating_sub(weight_of(x, cut));
+        light &= lacks.saturating_add(lacks) >= one.saturating_sub(least);
+    }
+    light
+}
+
+/// Whether each cut comes behind the one before it.
+fn are_rising(cuts: &[Cut]) -> bool {
+    for k in 1..cuts.len() {
+        if cuts[k - 1] >= cuts[k] {
+            return false;
+        }
+    }
+    true
+}
+
+#[test]
+fn met_cuts_lack_half_as_much_as_the_least(rt: HostRuntime) -> Result<(), Fail> {
+    let alloc = rt.alloc();
+    let mut several = 0u32;
+    for number in 0..500u64 {
+        let x = drawn(alloc, number)?;
+        let cuts = found(alloc, &x)?;
+        if cuts.met.len() > 1 {
+            several = several.wrapping_add(1);
+        }
+        assert!(rt; are_rising(&cuts.met), "at {number}");
+        match &cuts.least {
+            Some(odd) => {
+                assert!(rt; cuts.met.contains(&odd.cut), "at {number}");
+                assert!(rt; are_light(&x, odd.weight, &cuts.met), "at {number}");
+            }
+            None => assert!(rt; cuts.met.is_empty(), "at {number}"),
+        }
+    }
+    assert!(rt; several > 50, "only {several} with several");
     Ok(())
 }

@@ -16,6 +16,10 @@ use Rattle.sepodd.proofs.SubmodularLemmas.{folded_are_entries}
 use Rattle.sepodd.proofs.UncrossingLemmas.{none_odd}
 use Rattle.sepodd.proofs.GroupLemmas.{weight_same, least_through, merged_least, merged_odd, joined_odd, split_least}
 
+-- a lesser weight is below too
+pub parting_less : (x : Values) (number : ℕ → ℕ) (s t old new : ℕ) → new ≤ old → IsBelowParting x number s t old → IsBelowParting x number s t new
+parting_less x number s t old new l below p holds lacks = let z = below p holds lacks in omega (arith, z, l)
+
 module _ (x folded w : Values) (numbers : List ℕ) (size : folded.n ≡ x.n) (entries : folded.entries ≡ folded_entries x.entries) (all : AreEntries x.n x.entries)
     (weights : (p : ℕ → Bool) → crossing_weight folded (λ k. p (slice_index numbers k)) ≡ pos (crossing w.entries p)) where
   -- the network's crossing weight of groups is that of their union

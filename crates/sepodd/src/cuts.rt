@@ -39,7 +39,7 @@ fn no_memory(_error: CutError) -> AllocError
 }
 
 /// The cities that are marked as city 0 is.
-fn handle_of(alloc: Global, n: u32, side: &[bool]) -> Result<CitySet, AllocError>
+pub fn handle_of(alloc: Global, n: u32, side: &[bool]) -> Result<CitySet, AllocError>
     requires many { 3 ≤ n }
     requires few { n ≤ 2000 }
     ensures cities { IfOk result (λ s. s.n ≡ n) }
@@ -119,7 +119,7 @@ fn is_wanted(x: &Frac, side: &[bool], turned: Option<(u32, u32)>, u: u32, v: u32
 }
 
 /// Whether the pair is the one that is turned over.
-fn is_turned(turned: Option<(u32, u32)>, u: u32, v: u32) -> bool
+pub fn is_turned(turned: Option<(u32, u32)>, u: u32, v: u32) -> bool
     ensures { result ≡ is_turned turned u v }
 {
     match turned {

@@ -6,14 +6,14 @@ ghost use Rattle.sepodd.specs.Folding.{folded_entries, folded_crossing};
 ghost use Rattle.sepodd.specs.Sides.{IsBest, IsBelowTurned, IsKnown};
 
 use crate::folding;
-use crate::sides::{self, Best};
+use crate::sides::{self, Best, Side};
 use crate::uncrossing::stop_at;
 use cyc::{Entry, Frac};
 use maxflow::Network;
 use std::alloc::{AllocError, Global};
 
-/// The best so far, or the least side of all with the choice of one crossing pair turned over. A flow is given up where it reaches what
-/// the best leaves for it.
+/// The best so far, or the least side of all with the choice of one crossing pair turned over. A flow is given up where, with
+/// what the turning costs, it reaches half-way between the best weight so far and one length.
 pub fn turned_sides(alloc: Global, x: &Frac, folded: &Frac, best: Best) -> Result<Best, AllocError>
     requires size { folded.now.n ≡ x.now.n }
     requires entries { folded.now.entries ≡ folded_entries x.now.entries }
@@ -70,25 +70,30 @@ fn turned_at(
     ensures no_more { IfOk result (λ b. b.weight ≤ best.weight) }
     ensures least { IfOk result (λ b. IsBelowTurned x.now entry b.weight) }
 {
+    let limit = sides::limit(best.weight);
     let turn = folding::turning(entry.x);
-    if turn >= best.weight {
+    if turn >= limit {
         return Ok(best);
     }
     let stops = stop_at(alloc, x.n(), entry.v)?;
-    let Some(found) = network.flow_below(alloc, entry.u, &stops, best.weight - turn)? else {
+    let Some(found) = network.flow_below(alloc, entry.u, &stops, limit - turn)? else {
         return Ok(best);
     };
     let side = sides::members_of(alloc, x.n(), &found.side)?;
     if folding::is_odd(x.entries(), &side) {
-        return Ok(Best {
+        let odd = Side {
             weight: found.value,
             side,
             turned: None,
-        });
+        };
+        let best = sides::with_side(alloc, x, best, odd)?;
+        return Ok(best);
     }
-    Ok(Best {
+    let even = Side {
         weight: found.value + turn,
         side,
         turned: Some((entry.u, entry.v)),
-    })
+    };
+    let best = sides::with_side(alloc, x, best, even)?;
+    Ok(best)
 }

@@ -1,10 +1,11 @@
 //! The least set that an odd number of pairs above a half cross.
 //!
 //! Some cities are one group after another, and the odd sets are unions of groups. A least set of groups that parts two groups s and t
-//! of them is found by a flow. Where it is odd, or no lighter than the best so far, no odd set that parts s and t is better, so they are one
-//! group from now on. Where it is even, an odd set that crosses it can be changed for its meet or its join with it, which is no
-//! heavier and odd (Padberg and Rao 1982): so all groups outside become one group, then all inside. Only odd groups
-//! are taken for s and t, and a group made of an even set is not odd, so there are fewer at each step (Rizzi 2003).
+//! of them is found by a flow, which is given up half-way between the best weight so far and one length. Where the set is odd, or no
+//! lighter than the best so far, no odd set that parts s and t is better, so they are one group from now on. Where it is even, an odd
+//! set that crosses it can be changed for its meet or its join with it, which is no heavier and odd (Padberg and Rao 1982): so all
+//! groups outside become one group, then all inside. Only odd groups are taken for s and t, and a group made of an even set is not odd,
+//! so there are fewer at each step (Rizzi 2003).
 ghost use Rattle.std.specs.Prelude.{◌≡◌, ◌≢◌, ◌<◌, ◌≤◌, ◌==◌, ℕ, true, false, not, length, slice_index, IfOk, MatchOption};
 ghost use Rattle.tspdef.specs.Sets.{has};
 ghost use Rattle.maxflow.specs.Flows.{is_stop};
@@ -12,7 +13,7 @@ ghost use Rattle.sepodd.specs.Folding.{folded_entries, differ, joined, is_odd};
 ghost use Rattle.sepodd.specs.Sides.{IsBest, IsBelowOdd, AreGroups, is_marked, IsBelowParting, IsEvenLeast};
 
 use crate::folding;
-use crate::sides::{self, Best};
+use crate::sides::{self, Best, Side};
 use cyc::Frac;
 use maxflow::Network;
 use std::alloc::{AllocError, Global};
@@ -104,7 +105,8 @@ fn least_of_groups(
     Ok(last)
 }
 
-/// Parts two groups by a least set of groups. Where that is even, it is told; else no odd set that parts the two weighs less than the best.
+/// Parts two groups by a least set of groups. Where that is even and lighter than the best so far, it is told; else no odd set that parts
+/// the two weighs less than the best.
 fn parted(
     alloc: Global,
     x: &Frac,
@@ -132,25 +134,27 @@ fn parted(
     let _entries = x.entries();
     let network = Network::of_groups(alloc, folded, numbers, n)?;
     let stops = stop_at(alloc, n, t)?;
-    let Some(found) = network.flow_below(alloc, s, &stops, best.weight)? else {
+    let limit = sides::limit(best.weight);
+    let Some(found) = network.flow_below(alloc, s, &stops, limit)? else {
         return Ok(Parting { best, side: None });
     };
     let members = sides::members_of(alloc, n, &found.side)?;
     let side = sides::marks_of(alloc, numbers, &members)?;
-    if !folding::is_odd(x.entries(), &side) {
-        return Ok(Parting {
-            best,
-            side: Some(members),
-        });
+    if folding::is_odd(x.entries(), &side) {
+        let odd = Side {
+            weight: found.value,
+            side,
+            turned: None,
+        };
+        let best = sides::with_side(alloc, x, best, odd)?;
+        return Ok(Parting { best, side: None });
     }
-    let better = Best {
-        weight: found.value,
-        side,
-        turned: None,
-    };
+    if found.value >= best.weight {
+        return Ok(Parting { best, side: None });
+    }
     Ok(Parting {
-        best: better,
-        side: None,
+        best,
+        side: Some(members),
     })
 }
 

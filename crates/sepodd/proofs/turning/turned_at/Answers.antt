@@ -1,4 +1,4 @@
-use Rattle.std.proofs.Common.{◌≡◌, ◌+◌, ◌-◌, ℕ, Bool, true, false, not, cond, List, sym, ap, ◌∙◌, arith}
+use Rattle.std.proofs.Common.{◌≡◌, ◌-◌, ℕ, Bool, true, false, not, cond, List, sym, ap, ◌∙◌, arith}
 use Rattle.std.proofs.lemmas.Bool.{false≢true}
 use Rattle.tspdef.specs.Sets.{has}
 use Rattle.cyc.specs.declared.frac.Entry.{Entry}
@@ -25,40 +25,31 @@ pub returns-in_default-clause-least : goal.returns-in_default-clause-least
 returns-in_default-clause-least c =
     let below = rw c.in_default.is at c.in_ok-found.ensures in
     let turn = c.turning-turn.ensures in
+    let least = c.limit-limit.ensures.least in
     turned_below c.args.x.now c.args.network.now c.requires.weights c.args.entry c.deref.result.now
     (λ k ne. stop_read c.deref.result.now c.in_ok-stops.stops.items c.deref.ensures.value false k (c.in_ok-stops.ensures.others k ne))
-    (c.args.best.weight - c.turning-turn.result) c.args.best.weight below (omega (arith, turn))
+    (c.limit-limit.result - c.turning-turn.result) c.args.best.weight below (omega (arith, turn, least))
 
-pub returns-then-is_odd-clause-best : goal.returns-then-is_odd-clause-best
-returns-then-is_odd-clause-best c =
-    let found = rw c.in-Some.is at c.in_ok-found.ensures in
-    let flow = found.0 in
-    let less = found.1 in
-    let most = c.requires.best.most in
-    let size = c.n-2.ensures.value in
-    record {
-      most = omega (arith, less, most);
-      size = c.in_ok-side.ensures.size ∙ size;
-      has_weight = λ h. (
-        sym (c.is_odd.ensures ∙ odd_read c.entries.result.now c.args.x.now.entries c.deref-2.result.now c.in_ok-side.side.items c.entries.ensures.value c.deref-2.ensures.value) ∙ c.if-is_odd.true,
-        weight_same c.args.x.now.n c.args.x.now.entries c.entries.ensures.entries.each (is_marked c.in_ok-side.side.items) (has c.in-Some.found.side.cities) (λ k l. c.in_ok-side.ensures.marks k (omega (arith, size, l)))
-            ∙ sym (c.requires.weights (has c.in-Some.found.side.cities)) ∙ flow.crossed,
-      );
-    }
+pub with_side-requires-clause-has_weight : goal.with_side-requires-clause-has_weight
+with_side-requires-clause-has_weight c =
+    let flow = (rw c.in-Some.is at c.in_ok-found.ensures).0 in
+    let size = c.n-2.ensures.value in (
+      sym (c.is_odd.ensures ∙ odd_read c.entries.result.now c.args.x.now.entries c.deref-2.result.now c.in_ok-side.side.items c.entries.ensures.value c.deref-2.ensures.value) ∙ c.if-is_odd.true,
+      weight_same c.args.x.now.n c.args.x.now.entries c.entries.ensures.entries.each (is_marked c.in_ok-side.side.items) (has c.in-Some.found.side.cities) (λ k l. c.in_ok-side.ensures.marks k (omega (arith, size, l)))
+          ∙ sym (c.requires.weights (has c.in-Some.found.side.cities)) ∙ flow.crossed,
+    )
 
 pub returns-then-is_odd-clause-least : goal.returns-then-is_odd-clause-least
 returns-then-is_odd-clause-least c =
     let flow = (rw c.in-Some.is at c.in_ok-found.ensures).0 in
+    let met = c.in_ok-best.ensures.met in
     turned_below c.args.x.now c.args.network.now c.requires.weights c.args.entry c.deref.result.now
     (λ k ne. stop_read c.deref.result.now c.in_ok-stops.stops.items c.deref.ensures.value false k (c.in_ok-stops.ensures.others k ne))
-    c.in-Some.found.value c.in-Some.found.value flow.least (omega arith)
+    c.in-Some.found.value c.in_ok-best.best.weight flow.least (omega (arith, met))
 
-pub returns-clause-best : goal.returns-clause-best
-returns-clause-best c =
-    let found = rw c.in-Some.is at c.in_ok-found.ensures in
-    let flow = found.0 in
-    let less = found.1 in
-    let most = c.requires.best.most in
+pub with_side-requires-2-clause-has_weight : goal.with_side-requires-2-clause-has_weight
+with_side-requires-2-clause-has_weight c =
+    let flow = (rw c.in-Some.is at c.in_ok-found.ensures).0 in
     let size = c.n-2.ensures.value in
     let known = c.requires.known in
     let u = known.u_below in
@@ -68,29 +59,25 @@ returns-clause-best c =
     let value : turning (value_of c.args.x.now.entries c.args.entry.u c.args.entry.v) ≡ turning c.args.entry.x = ap turning known.value in
     let weight : folded_crossing c.args.x.now.entries (is_marked c.in_ok-side.side.items) ≡ c.in-Some.found.value =
     weight_same c.args.x.now.n c.args.x.now.entries c.entries.ensures.entries.each (is_marked c.in_ok-side.side.items) (has c.in-Some.found.side.cities) (λ k l. c.in_ok-side.ensures.marks k (omega (arith, size, l)))
-    ∙ sym (c.requires.weights (has c.in-Some.found.side.cities)) ∙ flow.crossed in
-    record {
-      most = omega (arith, less, most);
-      size = c.in_ok-side.ensures.size ∙ size;
-      has_weight = λ h. (
-        sym (c.is_odd.ensures ∙ odd_read c.entries.result.now c.args.x.now.entries c.deref-2.result.now c.in_ok-side.side.items c.entries.ensures.value c.deref-2.ensures.value) ∙ c.if-is_odd.false,
+    ∙ sym (c.requires.weights (has c.in-Some.found.side.cities)) ∙ flow.crossed in (
+      sym (c.is_odd.ensures ∙ odd_read c.entries.result.now c.args.x.now.entries c.deref-2.result.now c.in_ok-side.side.items c.entries.ensures.value c.deref-2.ensures.value) ∙ c.if-is_odd.false,
+      (
+        known.listed,
         (
-          known.listed,
-          (
-            crosses_from (is_marked c.in_ok-side.side.items c.args.entry.u) (is_marked c.in_ok-side.side.items c.args.entry.v)
-                (c.in_ok-side.ensures.marks c.args.entry.u (omega (arith, size, u)) ∙ flow.holds)
-                (c.in_ok-side.ensures.marks c.args.entry.v (omega (arith, size, v)) ∙ flow.lacks c.args.entry.v (omega (arith, cities, v))
-                (stop_read c.deref.result.now c.in_ok-stops.stops.items c.deref.ensures.value true c.args.entry.v c.in_ok-stops.ensures.here)),
-            omega (arith, weight, value, turn),
-          ),
+          crosses_from (is_marked c.in_ok-side.side.items c.args.entry.u) (is_marked c.in_ok-side.side.items c.args.entry.v)
+              (c.in_ok-side.ensures.marks c.args.entry.u (omega (arith, size, u)) ∙ flow.holds)
+              (c.in_ok-side.ensures.marks c.args.entry.v (omega (arith, size, v)) ∙ flow.lacks c.args.entry.v (omega (arith, cities, v))
+              (stop_read c.deref.result.now c.in_ok-stops.stops.items c.deref.ensures.value true c.args.entry.v c.in_ok-stops.ensures.here)),
+          omega (arith, weight, value, turn),
         ),
-      );
-    }
+      ),
+    )
 
 pub returns-clause-least : goal.returns-clause-least
 returns-clause-least c =
     let flow = (rw c.in-Some.is at c.in_ok-found.ensures).0 in
     let turn = c.turning-turn.ensures in
-    λ p x. turned_below c.args.x.now c.args.network.now c.requires.weights c.args.entry c.deref.result.now
+    let met = c.in_ok-best-2.ensures.met in
+    turned_below c.args.x.now c.args.network.now c.requires.weights c.args.entry c.deref.result.now
     (λ k ne. stop_read c.deref.result.now c.in_ok-stops.stops.items c.deref.ensures.value false k (c.in_ok-stops.ensures.others k ne))
-    c.in-Some.found.value (c.in-Some.found.value + c.turning-turn.result) flow.least (omega (arith, turn)) p x
+    c.in-Some.found.value c.in_ok-best-2.best.weight flow.least (omega (arith, turn, met))
