@@ -1,3 +1,4 @@
 pub mod Missed
+pub mod Odds
 pub mod Whys
 pub mod Rounds

@@ -8,8 +8,9 @@ use Rattle.tspdef.specs.Rays.{zero_closing}
 use Rattle.simplex.specs.Lp.{is_counted}
 use Rattle.nodelp.specs.Node.{Node, IsNodeLp, IsClean}
 use Rattle.nodelp.specs.Duals.{closing_of, newest_duals}
+use Rattle.worker.specs.declared.work.OddAnswer.{OddAnswer}
 use Rattle.grunt.specs.declared.rounds.Look.{Look}
-use Rattle.grunt.specs.Whys.{LacksNothing}
+use Rattle.grunt.specs.Whys.{LacksNothingOdd}
 
 -- a node's relaxation before any solve, with few rows
 pub record IsBegun (i : Instance) (path : List Condition) (node : Node) : Type 0 where
@@ -40,14 +41,14 @@ pub record HasGrown (i : Instance) (path : List Condition) (old new : Node) : Ty
   pub rounds : new.program.rounds ≡ old.program.rounds
   pub rows : length new.program.rows ≤ length old.program.rows + 4096
 
--- the bound closes the node for tours of length l, or nothing is missing, or the rounds are used up
-abbrev pub HasEnded : Instance → List Condition → ℕ → Node → Look → Type 0
-HasEnded i path l node look = (needed l <ℤ look.bound) ⊎ LacksNothing i path node.program ⊎ (node.program.rounds ≡ 200)
+-- the bound closes the node for tours of length l, or nothing is missing, by this answer no odd cut either, or the rounds are used up
+abbrev pub HasEnded : Instance → List Condition → ℕ → Node → Look → OddAnswer → Type 0
+HasEnded i path l node look a = (needed l <ℤ look.bound) ⊎ LacksNothingOdd i path node.program a ⊎ (node.program.rounds ≡ 200)
 
--- a node that is solved as it stands and is to be split, for tours of length l
-pub record IsStuck (i : Instance) (path : List Condition) (l : ℕ) (node : Node) : Type 0 where
+-- a node that is solved as it stands and is to be split, for tours of length l, with what a search for odd cuts answered
+pub record IsStuck (i : Instance) (path : List Condition) (l : ℕ) (node : Node) (a : OddAnswer) : Type 0 where
   pub is_lp : IsNodeLp i path node
   pub clean : IsClean node.program
   pub weak : bound i path (closing_of i.n path node (newest_duals node.program.last)) ≤ℤ needed l
   pub zeros_weak : bound i path (zero_closing i.n) ≤ℤ needed l
-  pub ended : LacksNothing i path node.program ⊎ (node.program.rounds ≡ 200)
+  pub ended : LacksNothingOdd i path node.program a ⊎ (node.program.rounds ≡ 200)

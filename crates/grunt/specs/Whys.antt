@@ -17,7 +17,9 @@ use Rattle.worker.specs.Works.{best_after}
 use Rattle.worker.specs.declared.work.Work.{Work}
 use Rattle.worker.specs.declared.work.Why.{Why}
 use Rattle.worker.specs.declared.work.Why.TheVariants.{Rounds, Rough, Checked}
+use Rattle.worker.specs.declared.work.OddAnswer.{OddAnswer}
 use Rattle.grunt.specs.Missed.{MissesNoCut}
+use Rattle.grunt.specs.Odds.{AnswersOdd}
 
 -- an answer is Rough
 abbrev pub HasRough : Option LpAnswer → Type 0
@@ -36,6 +38,10 @@ pub record LacksNothing (i : Instance) (path : List Condition) (p : Program) : T
   pub cuts : MissesNone p.last
   pub priced : IsPriced i path p (newest_duals p.last)
 
+-- the same, and this is what an exact search for odd cuts answered
+abbrev pub LacksNothingOdd : Instance → List Condition → Program → OddAnswer → Type 0
+LacksNothingOdd i path p a = LacksNothing i path p × AnswersOdd p.last a
+
 -- A node's program, to which nothing was added since its last solve, and neither the closing that its duals make nor zero
 -- duals close the node for tours of length l.
 pub record IsWorkedOn (i : Instance) (path : List Condition) (l : ℕ) (p : Program) : Type 0 where
@@ -45,11 +51,12 @@ pub record IsWorkedOn (i : Instance) (path : List Condition) (l : ℕ) (p : Prog
   pub weak : bound i path (closing_of i.n path (record { program = p; cuts = cuts }) (newest_duals p.last)) ≤ℤ needed l
   pub zeros_weak : bound i path (zero_closing i.n) ≤ℤ needed l
 
--- The program had its 200 rounds; or it is rough, or checked, and lacks nothing.
+-- The program had its 200 rounds; or it is rough, or checked, and lacks nothing. Where it is checked, this is what an exact search for odd cuts
+-- answered at its values: none below one length, or one that they violate by less than 2^10 units.
 abbrev pub IsReason : Instance → List Condition → ℕ → Why → Type 0
 IsReason i path l (Rounds p) = IsWorkedOn i path l p × (p.rounds ≡ 200)
 IsReason i path l (Rough p) = IsWorkedOn i path l p × HasRough p.last × LacksNothing i path p
-IsReason i path l (Checked p) = IsWorkedOn i path l p × HasSolved p.last × LacksNothing i path p
+IsReason i path l (Checked p a) = IsWorkedOn i path l p × HasSolved p.last × LacksNothingOdd i path p a
 
 -- a split has a reason, for tours of length l, and a closing none
 abbrev pub Explains : Instance → List Condition → ℕ → Report → Option Why → Type 0

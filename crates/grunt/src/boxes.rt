@@ -1,6 +1,7 @@
 //! Cuts that come out of a box and go into it.
-ghost use Rattle.std.specs.Prelude.{◌≤◌, length, IfOk};
-ghost use Rattle.std.specs.List.{All};
+ghost use Rattle.std.specs.Prelude.{◌≡◌, ◌≤◌, length, take, IfOk};
+ghost use Rattle.std.specs.List.{All, filter};
+ghost use Rattle.cutpool.specs.Pool.{is_worth};
 ghost use Rattle.sepblos.specs.Violated.{IsWorth};
 
 use cutform::Cut;
@@ -26,9 +27,10 @@ pub(crate) fn fetched_cuts<B: CutBox>(
 }
 
 /// Of some cuts the first ones that are of the values' cities and that these miss by 2^10 units or more.
-fn sifted(alloc: Global, x: &Frac, cuts: Vec<Cut>) -> Result<Vec<Cut>, AllocError>
+pub(crate) fn sifted(alloc: Global, x: &Frac, cuts: Vec<Cut>) -> Result<Vec<Cut>, AllocError>
     ensures worth { IfOk result (λ cuts. All (IsWorth x.now) cuts.items) }
     ensures few { IfOk result (λ cuts. length cuts.items ≤ 4096) }
+    ensures found { IfOk result (λ found. found.items ≡ take 4096 (filter (is_worth x.now) cuts.items)) }
 {
     worth_adding(alloc, x, cuts, MANY)
 }

@@ -3,7 +3,7 @@
 //!
 //! - [`LpWorker`] is the worker: it closes a node, or splits it and says why, and keeps what the children begin with. [`work_by_lp`]
 //!   is its work on a node of which nothing is kept.
-//! - [`Worker`], [`Work`], [`Why`], [`Effort`] and [`PlainWorker`] are those of the crate `worker`.
+//! - [`Worker`], [`Work`], [`Why`], [`OddAnswer`], [`Effort`] and [`PlainWorker`] are those of the crate `worker`.
 #![tactic(auto)]
 
 mod ages;
@@ -11,6 +11,7 @@ mod boxes;
 mod efforts;
 mod light;
 mod missed;
+mod odd;
 mod offers;
 mod probes;
 mod proposals;
@@ -22,7 +23,7 @@ mod walk;
 mod work;
 
 pub use work::{LpWorker, work_by_lp};
-pub use worker::{Effort, PlainWorker, Why, Work, Worker};
+pub use worker::{Effort, OddAnswer, PlainWorker, Why, Work, Worker};
 
 #[cfg(test)]
 mod tests;

@@ -9,18 +9,18 @@ ghost use Rattle.grunt.specs.Rounds.{IsStuck};
 use crate::rounds::ROUNDS;
 use nodelp::NodeLp;
 use simplex::{Lp, LpAnswer};
-use worker::Why;
+use worker::{OddAnswer, Why};
 
-/// Why a node is split: its rounds are used up, or its answer, rough or checked, lacks nothing.
-pub(crate) fn reason_of(node: NodeLp) -> Why
+/// Why a node is split: its rounds are used up, or its answer, rough or checked, lacks nothing. With a checked one goes what the search for odd cuts answered.
+pub(crate) fn reason_of(node: NodeLp, odd: OddAnswer) -> Why
     requires { IsClean node.program }
-    ensures { (i : TheInstance) (path : List Condition) (l : ℕ) → IsStuck i path l node → IsReason i path l result }
+    ensures { (i : TheInstance) (path : List Condition) (l : ℕ) → IsStuck i path l node odd → IsReason i path l result }
 {
     if node.lp().rounds() == ROUNDS {
         return Why::Rounds(node.into_lp());
     }
     if is_solved(node.lp()) {
-        Why::Checked(node.into_lp())
+        Why::Checked(node.into_lp(), odd)
     } else {
         Why::Rough(node.into_lp())
     }

@@ -1,5 +1,5 @@
 //! Rounds of solving a node's relaxation and adding what its answer lacks.
-ghost use Rattle.std.specs.Prelude.{◌≡◌, ℕ, List, ◌+◌, ◌^◌, ◌≤◌, ◌<ℤ◌, true, false, length, All, IfOk, IfSome, OnOk};
+ghost use Rattle.std.specs.Prelude.{◌≡◌, ℕ, List, ◌+◌, ◌^◌, ◌≤◌, ◌<ℤ◌, true, false, None, length, All, IfOk, IfSome, OnOk};
 ghost use Rattle.tspdef.specs.Instances.{Instance as TheInstance};
 ghost use Rattle.tspdef.specs.Paths.{Condition};
 ghost use Rattle.tspdef.specs.Bounds as bounds;
@@ -9,12 +9,13 @@ ghost use Rattle.simplex.specs.Lp.{is_counted};
 ghost use Rattle.worker.specs.Works.{cliques};
 ghost use Rattle.sepblos.specs.Violated.{IsWorth};
 ghost use Rattle.grunt.specs.Missed.{MissesNoCut};
-ghost use Rattle.grunt.specs.Whys.{MissesNone, LacksNothing};
+ghost use Rattle.grunt.specs.Whys.{MissesNone, LacksNothing, LacksNothingOdd};
 ghost use Rattle.grunt.specs.Rounds.{IsBegun, IsLook, HasGrown, HasEnded};
 
 use crate::ages::Ages;
 use crate::boxes::{fetched_cuts, share_all};
 use crate::missed::missed_cuts;
+use crate::odd::{Asked, OddSearch};
 use crate::proposals::handles_of;
 use branchx::Path;
 use cutform::Cut;
@@ -26,6 +27,7 @@ use simplex::{Lp, LpAnswer};
 use std::alloc::{AllocError, Global};
 use tspdef::bound_is_below;
 use tspinst::Instance;
+use worker::OddAnswer;
 
 /// How many rounds a node has.
 pub(crate) const ROUNDS: u32 = 200;
@@ -57,31 +59,35 @@ pub(crate) fn rounds<B: CutBox>(
     path: &Path,
     wanted: u64,
     node: &mut NodeLp,
-) -> Result<Look, AllocError>
+) -> Result<(Look, OddAnswer), AllocError>
     requires cities { path.now.n ≡ instance.now.n }
     requires few { length path.now.conditions ≤ 2 ^ 22 }
     requires few_cliques { cliques path.now.conditions ≤ 2 ^ 21 }
     requires begun { IsBegun instance.now path.now.conditions node.old }
-    ensures look { IfOk result (IsLook instance.now path.now.conditions node.new) }
-    ensures ended { IfOk result (HasEnded instance.now path.now.conditions wanted node.new) }
+    ensures look { IfOk result (λ r. IsLook instance.now path.now.conditions node.new r.0) }
+    ensures ended { IfOk result (λ r. HasEnded instance.now path.now.conditions wanted node.new r.0 r.1) }
 {
     let mut ages = Ages::new(alloc);
     let mut purges = PURGES;
+    let mut odd = OddSearch::new();
     while node.lp().rounds() < ROUNDS - 1 {
         solve(alloc, node)?;
         if let Some(closing) = closing_look(alloc, instance, path, wanted, node)? {
-            return Ok(closing);
+            return Ok((closing, OddAnswer::NotAsked));
         }
         if purge(alloc, instance, path, node, &mut ages, purges)? {
             purges -= 1;
             continue;
         }
-        if !grow(alloc, instance, shared, path, node)? {
-            return newest_look(alloc, instance, path, node);
+        if let Some(answer) = grow(alloc, instance, shared, path, node, &mut odd)? {
+            return Ok((newest_look(alloc, instance, path, node)?, answer));
         }
     }
     solve(alloc, node)?;
-    newest_look(alloc, instance, path, node)
+    Ok((
+        newest_look(alloc, instance, path, node)?,
+        OddAnswer::NotAsked,
+    ))
 }
 
 /// Counts for how long each cut has been slack, and takes the old ones off where they are many and purges are left: whether it did.
@@ -193,8 +199,40 @@ fn newest_look(
     Ok(Look { closing, bound })
 }
 
-/// Adds what a node's newest answer lacks, and says whether that was anything. Cuts that are added are shared.
+/// Adds what a node's newest answer lacks; where that is nothing, what the search for odd cuts answered.
 fn grow<B: CutBox>(
+    alloc: Global,
+    instance: &Instance,
+    shared: &mut B,
+    path: &Path,
+    node: &mut NodeLp,
+    odd: &mut OddSearch,
+) -> Result<Option<OddAnswer>, AllocError>
+    requires node { IsNodeLp instance.now path.now.conditions node.old }
+    requires clean { IsClean node.old.program }
+    requires room { length node.old.program.rows + 4096 ≤ 4194304 }
+    ensures grown { IfOk result (λ end. end ≡ None → HasGrown instance.now path.now.conditions node.old node.new) }
+    ensures same { IfOk result (λ end. IfSome end (λ _. node.new ≡ node.old)) }
+    ensures full { IfOk result (λ end. IfSome end (LacksNothingOdd instance.now path.now.conditions node.old.program)) }
+{
+    let early = odd.early_cuts(alloc, node.lp())?;
+    if !early.is_empty() {
+        add_all(alloc, shared, node, early)?;
+        return Ok(None);
+    }
+    if grow_plainly(alloc, instance, shared, path, node)? {
+        return Ok(None);
+    }
+    let Asked { cuts, answer } = odd.asked(alloc, node.lp())?;
+    if cuts.is_empty() {
+        return Ok(Some(answer));
+    }
+    add_all(alloc, shared, node, cuts)?;
+    Ok(None)
+}
+
+/// Adds what a node's newest answer lacks beside odd cuts, and says whether that was anything.
+fn grow_plainly<B: CutBox>(
     alloc: Global,
     instance: &Instance,
     shared: &mut B,
@@ -212,9 +250,28 @@ fn grow<B: CutBox>(
     if missed.is_empty() {
         return node.add_negative(alloc, instance, path);
     }
-    share_all(alloc, shared, &missed)?;
-    node.add_cuts(alloc, missed)?;
+    add_all(alloc, shared, node, missed)?;
     Ok(true)
+}
+
+/// Adds cuts that the newest answer misses, and shares them.
+fn add_all<B: CutBox>(
+    alloc: Global,
+    shared: &mut B,
+    node: &mut NodeLp,
+    cuts: Vec<Cut>,
+) -> Result<(), AllocError>
+    requires clean { IsClean node.old.program }
+    requires solved { HasSolved node.old.program.last }
+    requires some { 1 ≤ length cuts.items }
+    requires few { length cuts.items ≤ 4096 }
+    requires cuts { All (IsCut node.old.program.n) cuts.items }
+    requires missed { All (IsMissed node.old.program) cuts.items }
+    requires room { length node.old.program.rows + 4096 ≤ 4194304 }
+    ensures grown { OnOk result ((i : TheInstance) (path : List Condition) → IsNodeLp i path node.old → HasGrown i path node.old node.new) }
+{
+    share_all(alloc, shared, &cuts)?;
+    node.add_cuts(alloc, cuts)
 }
 
 /// Cuts that the newest values miss by 2^10 units or more, if the newest answer is Solved: those of the box, or else those of the

@@ -23,7 +23,7 @@ use pricer::{Report, needed};
 use simplex::{Lp, LpAnswer};
 use std::alloc::{AllocError, Global};
 use tspinst::Instance;
-use worker::{Effort, Work, level, whole_length, zeros_that_close};
+use worker::{Effort, OddAnswer, Work, level, whole_length, zeros_that_close};
 
 /// Closes a node by its newest duals, where these suffice for the level; else offers the tour to which the values lead, and closes the
 /// node for that one, or splits it.
@@ -37,13 +37,14 @@ pub(crate) fn settle(
     gap: u64,
     node: NodeLp,
     newest: Look,
+    odd: OddAnswer,
     left: Option<&Start>,
 ) -> Result<Work, AllocError>
     requires cities { path.now.n ≡ instance.now.n }
     requires lists { near.now.n ≡ instance.now.n }
     requires question { IsOpenQuestion instance.now (level best gap) path.now.conditions }
     requires look { IsLook instance.now path.now.conditions node newest }
-    requires ended { HasEnded instance.now path.now.conditions (level best gap) node newest }
+    requires ended { HasEnded instance.now path.now.conditions (level best gap) node newest odd }
     ensures splits { IfOk result (λ w. SplitsOnly IsNeededSplit instance.now path.now.conditions best w.report gap) }
     ensures work { IfOk result (IsWork instance.now path.now.conditions best gap) }
     ensures explained { IfOk result (IsExplained instance.now path.now.conditions best gap) }
@@ -65,7 +66,7 @@ pub(crate) fn settle(
             Ok(Work {
                 tour,
                 report: Report::Split(branch),
-                why: Some(reason_of(node)),
+                why: Some(reason_of(node, odd)),
                 hint: whole_length(newest.bound),
                 effort: Effort {
                     split: 1,

@@ -18,7 +18,7 @@ use std::process::Abort;
 use std::test::Fail;
 use std::thread;
 use tspinst::{Instance, from_points, read};
-use worker::{Why, Work, Worker, root_path};
+use worker::{OddAnswer, Why, Work, Worker, root_path};
 
 /// Two triangles of sides 1, and 10 between them.
 const GROUPS: &[u8] =
@@ -173,10 +173,11 @@ fn closes_above(
     }
 }
 
-/// Whether the reason of a split is a checked answer.
+/// Whether the reason of a split is a checked answer, with an odd cut that is hardly violated or none.
 fn is_checked(work: &Work) -> bool {
     match &work.why {
-        Some(Why::Checked(_)) => true,
+        Some(Why::Checked(_, OddAnswer::Least(odd))) => odd.weight > 0xf_f000,
+        Some(Why::Checked(_, OddAnswer::NoneBelow)) => true,
         _ => false,
     }
 }

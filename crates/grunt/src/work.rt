@@ -160,7 +160,7 @@ pub(crate) fn work_from<B: CutBox>(
         return Ok((work, None));
     }
     let mut node = begin(alloc, instance, near, path, start)?;
-    let newest = rounds(alloc, instance, shared, path, level(best, gap), &mut node)?;
+    let (newest, odd) = rounds(alloc, instance, shared, path, level(best, gap), &mut node)?;
     let programs = effort_of(&node);
     let left = left_by(alloc, &node, &newest, level(best, gap))?;
     let mut work = settle(
@@ -173,6 +173,7 @@ pub(crate) fn work_from<B: CutBox>(
         gap,
         node,
         newest,
+        odd,
         left.as_ref(),
     )?;
     work.effort = work.effort.and(programs);

@@ -24,7 +24,7 @@ pub use laws::paths_are_short;
 pub use levels::{level, whole_length};
 pub use plain::{PlainWorker, first_look, work_plainly};
 pub use roots::root_path;
-pub use work::{Why, Work};
+pub use work::{OddAnswer, Why, Work};
 pub use workers::Worker;
 pub use zeros::{zero_bound, zeros_that_close};
 

@@ -1,4 +1,5 @@
-use Rattle.std.proofs.Common.{◌≡◌, ◌<◌, true, false, sym, ap, subst, ◌∙◌, arith}
+use Rattle.std.proofs.Common.{◌≡◌, ◌<◌, sym, ap, subst, ◌∙◌, arith}
+use Rattle.std.specs.Prelude.{IfSome}
 use Rattle.simplex.specs.Lp.{Program}
 use Rattle.nodelp.specs.Node.{Node, IsClean}
 use Rattle.grunt.specs.Rounds.{HasGrown}
@@ -13,8 +14,8 @@ grow-requires-clause-clean g c = subst (λ (m : Node). IsClean m.program) (sym (
 
 pub newest_look-requires-clause-clean : goal.newest_look-requires-clause-clean
 newest_look-requires-clause-clean g c =
-    let none : c.in_ok-grow.field-0 ≡ false = grind (arith, c.if-not-branch.true) in
-    subst (λ (m : Node). IsClean m.program) (sym (c.in_ok-grow.ensures.same none ∙ c.in_ok-purge.ensures.same c.if-branch.false)) c.in_ok-solve.ensures.clean
+    let same : c.grow.new.node ≡ c.purge.new.node = subst (λ o. IfSome o (λ _. c.grow.new.node ≡ c.purge.new.node)) c.in-Some-2.is c.in_ok-answer.ensures.same in
+    subst (λ (m : Node). IsClean m.program) (sym (same ∙ c.in_ok-purge.ensures.same c.if-branch.false)) c.in_ok-solve.ensures.clean
 
 pub loop-alloc-preserved : goal.loop-alloc-preserved
 loop-alloc-preserved g c =
@@ -25,6 +26,6 @@ loop-alloc-preserved g c =
     let now : c.rounds.result ≡ before.program.rounds = c.rounds.ensures ∙ ap (λ (p : Program). p.rounds) c.lp.ensures in
     let test = c.loop-alloc-test.true in
     let few : before.program.rounds < 199 = omega (arith, now, test) in
-    let more : c.in_ok-grow.field-0 ≡ true = grind (arith, c.if-not-branch.false) in
+    let more = c.in_default-2.is in
     grown_ready i path before c.solve.new.node c.grow.new.node c.loop-alloc.invariant few c.in_ok-solve.ensures.rounds c.in_ok-solve.ensures.rows
-    (subst (λ (m : Node). HasGrown i path m c.grow.new.node) same (c.in_ok-grow.ensures.grown more))
+    (subst (λ (m : Node). HasGrown i path m c.grow.new.node) same (c.in_ok-answer.ensures.grown more))
