@@ -23,11 +23,13 @@ mod ratio;
 mod refine;
 mod start;
 mod tolerances;
+mod trial;
 
 use factors::Factors;
 use lists::Entry;
 use numbers::ONE;
 use tolerances::COST_BITS;
+pub use trial::{End, Stand};
 
 /// Where a variable stands: in the basis, at its lower or upper bound, or at its only value.
 #[derive(Clone, Copy, PartialEq, Eq)]
@@ -125,6 +127,8 @@ pub struct Engine {
     // the column that leaves the basis for good, if there is one, and its pair
     gone: Vec<Structural>,
     gone_pair: (u32, u32),
+    // how many there were
+    pivots: u64,
 }
 
 impl Engine {
@@ -147,6 +151,7 @@ impl Engine {
             wanted: None,
             gone: Vec::new(alloc),
             gone_pair: (0, 0),
+            pivots: 0,
         }
     }
 
@@ -185,6 +190,11 @@ impl Engine {
     /// Whether the next run is to begin at a named basis.
     pub fn is_wanting(&self) -> bool {
         self.wanted.is_some()
+    }
+
+    /// How many pivots it made.
+    pub fn pivots(&self) -> u64 {
+        self.pivots
     }
 
     /// Whether a column is basic.

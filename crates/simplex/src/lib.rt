@@ -7,8 +7,10 @@ mod columns;
 mod engine;
 mod lp;
 mod made;
+mod trial;
 
 pub use answer::LpAnswer;
 pub use basis::Basis;
 pub use lp::Lp;
 pub use lpcheck::{Column, Row, Sense};
+pub use trial::Trial;

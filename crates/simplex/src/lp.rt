@@ -10,6 +10,7 @@ use crate::basis::Basis;
 use crate::columns::Columns;
 use crate::engine::Engine;
 use crate::made::{answer_of, is_new_to};
+use crate::trial::Trial;
 use lpcheck::{Cells, Column, Row, grow_table};
 use std::alloc::{AllocError, Global};
 use std::marker::Model;
@@ -178,6 +179,11 @@ impl Lp {
         self.engine.want(basis);
     }
 
+    /// How many pivots the solves made: a hint.
+    pub fn pivots(&self) -> u64 {
+        self.engine.pivots()
+    }
+
     /// Whether a column is basic since the newest solve: a hint.
     pub fn is_basic(&self, column: usize) -> bool {
         self.engine.is_basic(column)
@@ -191,6 +197,11 @@ impl Lp {
     /// The reduced cost of a column at the duals of the newest solve, in units, up to rounding; 0 where it is basic: a hint.
     pub fn reduced_cost(&self, column: usize) -> i64 {
         self.engine.reduced_cost(column)
+    }
+
+    /// A copy on which to try what it would cost to hold a column at one of its bounds: a hint.
+    pub fn trial(&self, alloc: Global) -> Result<Trial<'_>, AllocError> {
+        Trial::new(alloc, &self.engine, &self.table)
     }
 
     /// Whether a solve would count.

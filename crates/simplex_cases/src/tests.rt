@@ -345,3 +345,84 @@ fn a_grid_is_solved(rt: HostRuntime) -> Result<(), Fail> {
     assert!(rt; costs(&lp, 20_000, 14));
     Ok(())
 }
+
+/// The program of the degree rows over pairs with costs, in which a pair must be there, or is left out.
+fn held(
+    alloc: Global,
+    n: u32,
+    costs: &[u32],
+    pair: (u32, u32),
+    must: bool,
+) -> Result<Lp, AllocError> {
+    let mut lp = degrees(alloc, n)?;
+    let mut next = costs.iter();
+    for u in 0..n {
+        for v in 0..n {
+            if u < v {
+                let cost = next.next().copied().unwrap_or(0);
+                if must || (u, v) != pair {
+                    put_col(&mut lp, u, v, cost, (u, v) == pair)?;
+                }
+            }
+        }
+    }
+    Ok(lp)
+}
+
+/// The place and the pair of the first column whose value is half a length, up to an eighth.
+fn half(lp: &Lp) -> Option<(usize, (u32, u32))> {
+    let Some(LpAnswer::Solved { x, .. }) = lp.last() else {
+        return None;
+    };
+    for (place, column) in lp.cols().iter().enumerate() {
+        let (u, v) = (column.u, column.v);
+        if u < x.n() && v < x.n() && x.x(u, v).abs_diff(1 << 19) < 1 << 17 {
+            return Some((place, (u, v)));
+        }
+    }
+    None
+}
+
+#[test]
+fn a_trial_costs_what_a_program_with_the_column_held_costs(rt: HostRuntime) -> Result<(), Fail> {
+    let alloc = rt.alloc();
+    let most: i128 = 1 << 40;
+    let mut tried: u32 = 0;
+    for seed in 0..300u32 {
+        let n = (seed % 5).wrapping_add(6);
+        let drawn = draw(alloc, n, u64::from(seed))?;
+        let mut lp = complete(alloc, n, &drawn)?;
+        lp.solve(alloc, 1000)?;
+        if let Some((place, pair)) = half(&lp) {
+            let before = i128::from(cost_of(&lp));
+            let mut trial = lp.trial(alloc)?;
+            for at_one in [false, true, false] {
+                let mut other = held(alloc, n, &drawn, pair, at_one)?;
+                other.solve(alloc, 1000)?;
+                assert!(rt; is_solved(&other));
+                let more = i128::from(cost_of(&other)).wrapping_sub(before);
+                let gain = trial.gain(place, at_one, most, 200)?;
+                assert!(rt; gain.abs_diff(more) <= 4096 * 1001);
+                assert_eq!(rt; trial.gain(place, at_one, 5, 200)?, gain.min(5));
+            }
+            tried = tried.wrapping_add(1);
+        }
+    }
+    assert!(rt; tried >= 10);
+    Ok(())
+}
+
+#[test]
+fn a_trial_that_leaves_no_values_costs_the_most(rt: HostRuntime) -> Result<(), Fail> {
+    let alloc = rt.alloc();
+    let mut lp = complete(alloc, 3, &[1, 1, 1])?;
+    lp.solve(alloc, 1000)?;
+    let mut trial = lp.trial(alloc)?;
+    for place in 0..3usize {
+        if lp.is_basic(place) {
+            assert_eq!(rt; trial.gain(place, false, 77, 200)?, 77);
+        }
+    }
+    assert!(rt; lp.is_basic(0) || lp.is_basic(1) || lp.is_basic(2));
+    Ok(())
+}

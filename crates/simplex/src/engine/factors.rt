@@ -4,16 +4,34 @@
 //! one a row, in place: by the lower triangle in the order of the pivots, by the upper one against it, then by the etas; and
 //! `btran` the other way round. Zeros are skipped. O(entries) each.
 //! (Dantzig and Orchard-Hays 1954; Markowitz 1957; Suhl and Suhl 1990.)
-use super::lists::{Entry, Lists};
+use super::lists::{Entry, Lists, narrow};
 use super::numbers::{ONE, div, mul};
-use super::tolerances::MOST_ETAS;
+use super::tolerances::{MOST_NEW_ROWS, MOST_PIVOTS};
 use std::alloc::{AllocError, Global};
 
-/// The change of one column of the basis by a pivot: one over its entry in its own row. The others stand in a list.
+/// What an eta changes.
+#[derive(Clone, Copy, PartialEq, Eq)]
+enum Change {
+    /// One column of the basis, by a pivot.
+    Column,
+    /// A row more, in which its slack is basic.
+    Row,
+}
+
+/// The change of one column of the basis by a pivot, with one over its entry in its own row, or a row more. The other entries stand in a list.
 #[derive(Clone, Copy)]
 struct Eta {
+    change: Change,
     row: u32,
     reciprocal: i64,
+}
+
+/// An entry of a row that is new to the factors: of the variable that is basic at a place.
+#[derive(Clone, Copy)]
+pub struct NewEntry {
+    pub row: u32,
+    pub place: u32,
+    pub coef: i64,
 }
 
 /// The factors of a basis.
@@ -31,6 +49,10 @@ pub struct Factors {
     pub reciprocals: Vec<i64>,
     etas: Vec<Eta>,
     eta_columns: Lists,
+    // how many etas are of pivots
+    pivots: usize,
+    // how many rows the factors have, those of etas with them
+    rows: usize,
 }
 
 /// A number of a list.
@@ -78,6 +100,8 @@ impl Factors {
             reciprocals: Vec::new(alloc),
             etas: Vec::new(alloc),
             eta_columns: Lists::none(alloc),
+            pivots: 0,
+            rows: 0,
         }
     }
 
@@ -87,18 +111,80 @@ impl Factors {
         factors.lower = Lists::new(alloc, count)?;
         factors.upper = Lists::new(alloc, count)?;
         factors.reciprocals = vec![in alloc; ONE; count]?;
-        factors.eta_columns = Lists::new(alloc, MOST_ETAS)?;
+        factors.eta_columns = Lists::new(alloc, MOST_PIVOTS + MOST_NEW_ROWS)?;
+        factors.rows = count;
         Ok(factors)
     }
 
-    /// Whether no pivot was made since the basis was factored.
+    /// Whether no pivot was made and no row came since the basis was factored.
     pub fn is_fresh(&self) -> bool {
         self.etas.is_empty()
     }
 
     /// Whether the basis is to be factored anew.
     pub fn is_full(&self) -> bool {
-        self.etas.len() >= MOST_ETAS
+        self.pivots >= MOST_PIVOTS
+    }
+
+    /// How many rows the factors have.
+    pub fn rows(&self) -> usize {
+        self.rows
+    }
+
+    /// Whether so many rows in all are few enough to come in by etas.
+    pub fn may_take(&self, rows: usize) -> bool {
+        let etas = self.etas.len().saturating_sub(self.pivots);
+        self.rows > 0
+            && !self.is_full()
+            && rows >= self.rows
+            && etas.saturating_add(rows - self.rows) <= MOST_NEW_ROWS
+    }
+
+    /// Takes rows in, up to a count, whose slacks are basic in them; the entries of the others that are basic, by rising rows.
+    pub fn push_rows(&mut self, rows: usize, entries: &[NewEntry]) -> Result<(), AllocError> {
+        let mut next: usize = 0;
+        for row in self.rows..rows {
+            next = self.write_row(narrow(row), entries, next)?;
+            self.push_change(Change::Row, narrow(row), ONE)?;
+        }
+        self.rows = rows;
+        Ok(())
+    }
+
+    /// Writes a row's entries, which begin at a place of some; the place behind them.
+    fn write_row(
+        &mut self,
+        row: u32,
+        entries: &[NewEntry],
+        from: usize,
+    ) -> Result<usize, AllocError> {
+        let mut next = from;
+        for entry in entries.iter().skip(from) {
+            if entry.row != row {
+                break;
+            }
+            self.eta_columns.push(entry.place, entry.coef)?;
+            next = next.wrapping_add(1);
+        }
+        Ok(next)
+    }
+
+    /// The list that was written is an eta's.
+    fn push_change(&mut self, change: Change, row: u32, reciprocal: i64) -> Result<(), AllocError> {
+        self.eta_columns.close(narrow(self.etas.len()));
+        self.etas.push(Eta {
+            change,
+            row,
+            reciprocal,
+        })?;
+        Ok(())
+    }
+
+    /// Drops the pivots since the basis was factored.
+    pub fn forget_etas(&mut self) {
+        self.etas.clear();
+        self.eta_columns.clear();
+        self.pivots = 0;
     }
 
     /// The column of a row becomes another one, which is given in terms of the basis.
@@ -110,12 +196,8 @@ impl Factors {
             }
             place = place.wrapping_add(1);
         }
-        self.eta_columns
-            .close((self.etas.len() & 0xffff_ffff) as u32);
-        self.etas.push(Eta {
-            row,
-            reciprocal: div(ONE, at(column, row)),
-        })?;
+        self.push_change(Change::Column, row, div(ONE, at(column, row)))?;
+        self.pivots = self.pivots.wrapping_add(1);
         Ok(())
     }
 
@@ -152,6 +234,13 @@ impl Factors {
     #[inline]
     fn ftran_eta(&self, list: &mut [i64], eta: &Eta, place: u32) {
         let x = at(list, eta.row);
+        if eta.change == Change::Row {
+            let rest = less_dot(list, self.eta_columns.of(place), x);
+            if let Some(to) = list.get_mut(eta.row as usize) {
+                *to = rest;
+            }
+            return;
+        }
         if x != 0 {
             let y = mul(x, eta.reciprocal);
             if let Some(to) = list.get_mut(eta.row as usize) {
@@ -163,13 +252,10 @@ impl Factors {
 
     /// Solves for costs: the new list times the basis is the old one.
     pub fn btran(&self, list: &mut [i64]) {
-        let mut place = (self.etas.len() & 0xffff_ffff) as u32;
+        let mut place = narrow(self.etas.len());
         for eta in self.etas.iter().rev() {
             place = place.wrapping_sub(1);
-            let rest = less_dot(list, self.eta_columns.of(place), at(list, eta.row));
-            if let Some(to) = list.get_mut(eta.row as usize) {
-                *to = mul(rest, eta.reciprocal);
-            }
+            self.btran_eta(list, eta, place);
         }
         for row in &self.order {
             self.btran_at(list, *row);
@@ -179,6 +265,21 @@ impl Factors {
             if let Some(to) = list.get_mut(*row as usize) {
                 *to = rest;
             }
+        }
+    }
+
+    #[inline]
+    fn btran_eta(&self, list: &mut [i64], eta: &Eta, place: u32) {
+        let x = at(list, eta.row);
+        if eta.change == Change::Row {
+            if x != 0 {
+                take_off(list, self.eta_columns.of(place), x);
+            }
+            return;
+        }
+        let rest = less_dot(list, self.eta_columns.of(place), x);
+        if let Some(to) = list.get_mut(eta.row as usize) {
+            *to = mul(rest, eta.reciprocal);
         }
     }
 

@@ -15,6 +15,14 @@ struct Bounds {
     high: i64,
 }
 
+/// What an iteration comes to: a pivot, all values within their bounds, or no pivot where there should be one.
+#[derive(Clone, Copy, PartialEq, Eq)]
+enum Step {
+    Pivot,
+    Rest,
+    Stuck,
+}
+
 /// Whether an infeasibility weighs more than the worst so far.
 #[inline]
 fn is_worse(infeasibility: i64, weight: i64, worst: i64, worst_weight: i64) -> bool {
@@ -46,43 +54,60 @@ impl Engine {
         pivots: u32,
     ) -> Result<(), AllocError> {
         self.clear_ray();
-        self.refactor(alloc)?;
+        self.begin(alloc)?;
+        let mut is_mended = true;
         for _ in 0..pivots {
             if self.factors.is_full() {
                 self.refactor(alloc)?;
+                is_mended = true;
             }
-            if !self.try_pivot(table)? {
-                if self.factors.is_fresh() {
-                    break;
+            match self.try_pivot(table)? {
+                Step::Pivot => {
+                    self.pivots = self.pivots.wrapping_add(1);
+                    is_mended = false;
                 }
-                self.refactor(alloc)?;
+                Step::Rest if is_mended => break,
+                Step::Rest => {
+                    self.recompute();
+                    is_mended = true;
+                }
+                Step::Stuck if self.factors.is_fresh() => break,
+                Step::Stuck => {
+                    self.refactor(alloc)?;
+                    is_mended = true;
+                }
             }
         }
         self.finish();
         Ok(())
     }
 
-    /// One iteration of the dual simplex: whether a pivot was made. With fresh factors none is made at an optimum, or where the
-    /// pivot row is a ray of the duals, or where no pivot is large enough.
-    fn try_pivot(&mut self, table: &[Cells]) -> Result<bool, AllocError> {
+    /// One iteration of the dual simplex. With fresh factors no pivot is left only where the pivot row is a ray of the duals, or
+    /// where no pivot is large enough.
+    fn try_pivot(&mut self, table: &[Cells]) -> Result<Step, AllocError> {
         let Some((place, infeasibility)) = self.choose_leaving() else {
-            return Ok(false);
+            return Ok(Step::Rest);
         };
         self.btran_row(place);
         self.price(table)?;
         match self.ratio_test(infeasibility)? {
-            Some(variable) => self.pivot(place, variable),
+            Some(variable) => {
+                if self.pivot(place, variable)? {
+                    return Ok(Step::Pivot);
+                }
+                Ok(Step::Stuck)
+            }
             None => {
                 if self.factors.is_fresh() {
                     self.follow_ray(infeasibility < 0);
                 }
-                Ok(false)
+                Ok(Step::Stuck)
             }
         }
     }
 
     /// The basis row whose infeasibility weighs most, and by how much it is out of its bounds: negative below.
-    fn choose_leaving(&self) -> Option<(usize, i64)> {
+    pub(super) fn choose_leaving(&self) -> Option<(usize, i64)> {
         let mut place: Option<(usize, i64)> = None;
         let mut worst: i64 = 0;
         let mut weight: i64 = ONE;
@@ -109,7 +134,7 @@ impl Engine {
     }
 
     /// Takes the row of the inverse of a basis row into `rho`.
-    fn btran_row(&mut self, place: usize) {
+    pub(super) fn btran_row(&mut self, place: usize) {
         for to in self.rho.iter_mut() {
             *to = 0;
         }
@@ -291,7 +316,7 @@ impl Engine {
     }
 
     /// A variable enters for the one of a basis row: whether its entry there is large enough.
-    fn pivot(&mut self, place: usize, entering: Variable) -> Result<bool, AllocError> {
+    pub(super) fn pivot(&mut self, place: usize, entering: Variable) -> Result<bool, AllocError> {
         self.flip();
         self.ftran_column(entering);
         let entry = at(&self.work, narrow(place));

@@ -60,7 +60,7 @@ impl Engine {
         Ok(())
     }
 
-    fn clear_pivot_row(&mut self) {
+    pub(super) fn clear_pivot_row(&mut self) {
         for place in &self.pivot_row {
             if let Some(priced) = self.priced.get_mut(*place as usize) {
                 priced.in_pivot_row = false;

@@ -1,6 +1,7 @@
 //! The basis factored anew, and values and duals by residuals.
 use super::factoring::{Factoring, NONE};
-use super::lists::{Lists, narrow};
+use super::factors::NewEntry;
+use super::lists::{Entry, Lists, narrow};
 use super::numbers::ONE;
 use super::tolerances::{LAST_REFINEMENTS, RAY_LENGTH, REFINEMENTS};
 use super::{BasisRow, Engine, State, Structural, Variable, dot};
@@ -25,6 +26,53 @@ impl Engine {
         self.factor(alloc)?;
         self.recompute();
         Ok(())
+    }
+
+    /// Takes the rows that came since the basis was factored into the factors where they are few, and factors it anew where they are not.
+    pub fn begin(&mut self, alloc: Global) -> Result<(), AllocError> {
+        let rows = self.basis.len();
+        if !self.factors.may_take(rows) {
+            return self.refactor(alloc);
+        }
+        let entries = self.new_entries(alloc)?;
+        self.factors.push_rows(rows, &entries)?;
+        self.recompute();
+        Ok(())
+    }
+
+    /// What basic variables have of the rows that are new to the factors, by rising rows.
+    fn new_entries(&self, alloc: Global) -> Result<Vec<NewEntry>, AllocError> {
+        let from = narrow(self.factors.rows());
+        let mut keys = Vec::new(alloc);
+        let mut place: u32 = 0;
+        for row in &self.basis {
+            for entry in self.entries_of(row.variable).iter().rev() {
+                if entry.row < from {
+                    break;
+                }
+                keys.push((entry.row, place, entry.coef.wrapping_mul(ONE)))?;
+            }
+            place = place.wrapping_add(1);
+        }
+        keys.sort_unstable();
+        let mut entries = Vec::with_capacity(alloc, keys.len())?;
+        for (row, place, coef) in keys {
+            entries.push(NewEntry { row, place, coef })?;
+        }
+        Ok(entries)
+    }
+
+    /// The entries of a column, or of the one that is gone; of a slack none.
+    fn entries_of(&self, variable: Variable) -> &[Entry] {
+        let structural = match variable {
+            Variable::Column(j) => self.structurals.get(j as usize),
+            Variable::Gone => self.gone.first(),
+            Variable::Slack(_) => None,
+        };
+        match structural {
+            Some(structural) => &structural.entries,
+            None => &[],
+        }
     }
 
     /// Factors the basis. Each basic variable goes to the row of its pivot. Where a column has none, since it depends on
@@ -123,7 +171,7 @@ impl Engine {
     }
 
     /// Hands the values of the basis rows to their variables.
-    fn store_values(&mut self) {
+    pub(super) fn store_values(&mut self) {
         for row in self.basis.iter() {
             match row.variable {
                 Variable::Column(j) => {
@@ -217,7 +265,7 @@ impl Engine {
     }
 
     /// Reduced costs anew; a column on the wrong side goes to its other bound, and the values follow.
-    fn recompute(&mut self) {
+    pub(super) fn recompute(&mut self) {
         self.refine_duals(true, REFINEMENTS);
         for (structural, priced) in self.structurals.iter_mut().zip(self.priced.iter_mut()) {
             if priced.state != State::Basic {

@@ -19,7 +19,10 @@ pub const LEAST_PIVOT: i64 = 262_144;
 pub const PIVOT_THRESHOLD: u32 = 3;
 
 /// The basis is factored anew after 64 pivots: then solving by the etas costs about as much as by the triangles.
-pub const MOST_ETAS: usize = 64;
+pub const MOST_PIVOTS: usize = 64;
+
+/// It is factored anew where more rows than so many came since.
+pub const MOST_NEW_ROWS: usize = 48;
 
 /// Devex reference weights and infeasibilities count up to 2^8 in the choice of the leaving variable, so that a product of
 /// three of them has less than 128 bits.
