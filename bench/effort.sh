@@ -1,5 +1,5 @@
 #!/usr/bin/env bash
-# Counts what the search does on the shared instances of at most MOST cities whose optimum is known: nodes, rounds of linear programs,
+# Counts what the search does on the shared instances of at most MOST cities whose optimum is known: nodes, rounds of linear programs and their pivots,
 # cuts that were added by their kinds, and columns; and times it. The counts are those that a search returns (`worker::Effort`).
 # Outside the gate. Prints a table; figures go into docs/PERFORMANCE.md.
 #
@@ -14,7 +14,7 @@ box=${BOX:-CutPool}
 . "$top/bench/workspace.sh"
 workspace effort 'ports tspdef distx cyc tspinst neigh linkern cutform cutpool branchx pricer lpcheck simplex treebook leasebook tournament bossx pathtour opening worker grunt tspround anyhow'
 cat >"$work/crates/effort/src/main.rt" <<'RT'
-//! effort INSTANCE BUDGET: cities, nodes settled and left open, the best length, rounds, rows of subtour cuts, of combs with pairs
+//! effort INSTANCE BUDGET: cities, nodes settled and left open, the best length, rounds, pivots, rows of subtour cuts, of combs with pairs
 //! as teeth, of other combs, columns, the most rounds of a node, and milliseconds of the processor.
 #![tactic(auto)]
 
@@ -67,9 +67,9 @@ fn main(rt: HostRuntime) -> Result<()> {
     let took = end.saturating_sub(start).as_millis();
     let (_, tree) = boss.snapshot();
     println!(rt;
-        "{} {} {} {} {} {} {} {} {} {} {took}",
+        "{} {} {} {} {} {} {} {} {} {} {} {took}",
         instance.n(), boss.settled(), tree.open_nodes(), boss.best_length(),
-        c.rounds, c.subtours, c.blossoms, c.combs, c.columns, c.most_rounds
+        c.rounds, c.pivots, c.subtours, c.blossoms, c.combs, c.columns, c.most_rounds
     )?;
     Ok(())
 }
@@ -78,10 +78,10 @@ sed -i "s/KIND/$box/; s/MADE/$shared_box/" "$work/crates/effort/src/main.rt"
 (cd "$work/crates/effort" && rt run -- "$shared/instances/none" 1 >"$work/log" 2>&1) || true
 effort=$work/crates/effort/out/effort
 [ -x "$effort" ] || { tail -30 "$work/log" >&2; exit 1; }
-printf '%-16s %5s %6s %5s %10s %7s %9s %9s %7s %8s %6s %8s\n' instance n nodes open length rounds subtours blossoms combs columns most ms
+printf '%-16s %5s %6s %5s %10s %7s %8s %9s %9s %7s %8s %6s %8s\n' instance n nodes open length rounds pivots subtours blossoms combs columns most ms
 while IFS=$'\t' read -r file n _; do
     [ "$n" -le "$most" ] || continue
-    read -r n nodes open length rounds subtours blossoms combs columns longest took < <("$effort" "$shared/instances/$file" "$budget")
-    printf '%-16s %5s %6s %5s %10s %7s %9s %9s %7s %8s %6s %8s\n' "$file" "$n" "$nodes" "$open" "$length" "$rounds" "$subtours" "$blossoms" "$combs" \
+    read -r n nodes open length rounds pivots subtours blossoms combs columns longest took < <("$effort" "$shared/instances/$file" "$budget")
+    printf '%-16s %5s %6s %5s %10s %7s %8s %9s %9s %7s %8s %6s %8s\n' "$file" "$n" "$nodes" "$open" "$length" "$rounds" "$pivots" "$subtours" "$blossoms" "$combs" \
         "$columns" "$longest" "$took"
 done < <(tail -n +2 "$shared/instances/optima.tsv" | awk -F'\t' '$4 != "-"' | sort -t"$(printf '\t')" -k2,2n)

@@ -14,6 +14,7 @@ together a b = record {
   programs = capped (a.programs + b.programs);
   rounds = capped (a.rounds + b.rounds);
   most_rounds = max a.most_rounds b.most_rounds;
+  pivots = capped (a.pivots + b.pivots);
   subtours = capped (a.subtours + b.subtours);
   blossoms = capped (a.blossoms + b.blossoms);
   combs = capped (a.combs + b.combs);

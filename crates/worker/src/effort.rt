@@ -15,6 +15,8 @@ pub struct Effort {
     pub rounds: u64,
     /// The most rounds of one program.
     pub most_rounds: u64,
+    /// Pivots of all programs.
+    pub pivots: u64,
     /// Rows of subtour cuts.
     pub subtours: u64,
     /// Rows of blossoms: combs whose teeth are pairs.
@@ -34,6 +36,7 @@ impl Effort {
             programs: 0,
             rounds: 0,
             most_rounds: 0,
+            pivots: 0,
             subtours: 0,
             blossoms: 0,
             combs: 0,
@@ -51,6 +54,7 @@ impl Effort {
             programs: self.programs.saturating_add(other.programs),
             rounds: self.rounds.saturating_add(other.rounds),
             most_rounds: self.most_rounds.max(other.most_rounds),
+            pivots: self.pivots.saturating_add(other.pivots),
             subtours: self.subtours.saturating_add(other.subtours),
             blossoms: self.blossoms.saturating_add(other.blossoms),
             combs: self.combs.saturating_add(other.combs),
