@@ -4,15 +4,23 @@ use cutform::{Cut, Kind};
 use nodelp::NodeLp;
 use worker::Effort;
 
-/// What the program of a node cost: its rounds, its rows of cuts by their kinds, and its columns. O(cuts).
+/// What the solves of a node's program cost: its rounds and pivots.
+pub(crate) fn solves_of(node: &NodeLp) -> Effort {
+    Effort {
+        rounds: u64::from(node.lp().rounds()),
+        pivots: node.lp().pivots(),
+        ..Effort::none()
+    }
+}
+
+/// What the program of a node cost: its rounds and pivots, its rows of cuts by their kinds, and its columns. O(cuts).
 pub(crate) fn effort_of(node: &NodeLp) -> Effort {
-    let rounds = u64::from(node.lp().rounds());
+    let solves = solves_of(node);
     let mut effort = Effort {
         programs: 1,
-        rounds,
-        most_rounds: rounds,
+        most_rounds: solves.rounds,
         columns: node.lp().cols().len() as u64,
-        ..Effort::none()
+        ..solves
     };
     for (cut, _) in node.cuts() {
         effort = effort.and(row_of(cut));

@@ -4,7 +4,7 @@
 //! are many, as each moves the values to another end of what is left, and what they violate there is little. So the search first looks half-way between the
 //! newest values and a mean of those before: cuts of that place are violated deeper by the newest values, and fewer rounds are left
 //! (Ben-Ameur and Neto 2007, on in-out separation). Where these values violate none of them, the newest values decide.
-ghost use Rattle.std.specs.Prelude.{◌≡◌, ◌≤◌, IfOk, false, length};
+ghost use Rattle.std.specs.Prelude.{◌≡◌, ◌≤◌, IfOk, IfSome, false, length};
 ghost use Rattle.std.specs.List.{All};
 ghost use Rattle.nodelp.specs.Node.{IsClean, IsMissed, HasSolved};
 ghost use Rattle.sepblos.specs.Violated.{IsWorth};
@@ -45,19 +45,20 @@ impl OddSearch {
         }
     }
 
-    /// The odd cuts that a program's newest values violate, where the search comes first; else none.
-    pub(crate) fn early_cuts(&mut self, alloc: Global, lp: &Lp) -> Result<Vec<Cut>, AllocError>
+    /// What is asked of a program's newest values, where the search comes first.
+    pub(crate) fn early(&mut self, alloc: Global, lp: &Lp) -> Result<Option<Asked>, AllocError>
         requires clean { IsClean lp.now }
-        ensures cuts { IfOk result (λ cuts. All (IsCut lp.now.n) cuts.items) }
-        ensures missed { IfOk result (λ cuts. All (IsMissed lp.now) cuts.items) }
-        ensures few { IfOk result (λ cuts. length cuts.items ≤ 4096) }
-        ensures solved { IfOk result (λ cuts. 1 ≤ length cuts.items → HasSolved lp.now.last) }
+        ensures cuts { IfOk result (λ o. IfSome o (λ a. All (IsCut lp.now.n) a.cuts.items)) }
+        ensures missed { IfOk result (λ o. IfSome o (λ a. All (IsMissed lp.now) a.cuts.items)) }
+        ensures few { IfOk result (λ o. IfSome o (λ a. length a.cuts.items ≤ 4096)) }
+        ensures solved { IfOk result (λ o. IfSome o (λ a. 1 ≤ length a.cuts.items → HasSolved lp.now.last)) }
+        ensures answer { IfOk result (λ o. IfSome o (λ a. length a.cuts.items ≡ 0 → AnswersOdd lp.now.last a.answer)) }
     {
         if !self.comes_first {
-            return Ok(Vec::new(alloc));
+            return Ok(None);
         }
         let asked = self.asked(alloc, lp)?;
-        Ok(asked.cuts)
+        Ok(Some(asked))
     }
 
     /// The odd cuts that a program's newest values violate, or else what the exact search answered. It comes first in the next round where there is such a cut.

@@ -1,9 +1,10 @@
 //! Probes: what the children of a node would be worth.
 //!
 //! Of a few splits the best is taken, by what the relaxations of both children come to that each of them would make (strong branching:
-//! Applegate, Bixby, Chvátal and Cook, "The Traveling Salesman Problem", 2006, chapter 14). A child begins with what the node
-//! leaves to its children, so a probe is some pivots. It works on a program of its own: the node's rows, columns, newest
-//! answer and rounds stay as they are, and no answer rests on a probe.
+//! Applegate, Bixby, Chvátal and Cook, "The Traveling Salesman Problem", 2006, chapter 14). A split by a pair is probed by some pivots on
+//! a copy of the node's program, in which the pair's column is held at 0 and at one length; a split by a set of cities by programs of its
+//! children, which begin with what the node leaves to them. The node's rows, columns, newest answer and rounds stay as they are, and
+//! no answer rests on a probe.
 ghost use Rattle.std.specs.Prelude.{◌≡◌, ℕ, ◌<◌, List, length, IfOk, IfSome};
 ghost use Rattle.tspdef.specs.Paths.{Condition, MayFollow};
 ghost use Rattle.branchx.specs.Branch.{IsSplit};
@@ -13,14 +14,17 @@ ghost use Rattle.worker.specs.Splits.{IsEdge};
 
 use crate::starts::{Start, begin_from};
 use branchx::{Branch, Cond, Path, decided};
-use cyc::{Entry, Frac};
+use cyc::Frac;
 use nodelp::NodeLp;
-use simplex::LpAnswer;
+use simplex::{Column, Lp, LpAnswer, Trial};
 use std::alloc::{AllocError, Global};
 use tspinst::Instance;
 
 /// How many pairs are probed at most.
-const FEW: usize = 4;
+const FEW: usize = 6;
+
+/// How many pivots each child of a pair has.
+const PIVOTS: u32 = 50;
 
 /// At more conditions than so many nothing is probed.
 const DEEP: usize = 1 << 20;
@@ -44,12 +48,12 @@ pub(crate) struct Aim {
     pub(crate) gap: i128,
 }
 
-/// A split of a node with a path: the first one, or by one of a few pairs where that is worth more by probes. Two programs are solved
-/// for each at most.
+/// A split of a node with a path and a program: the first one, if that is by a set of cities, or by one of a few pairs, whichever is worth most by probes.
 pub(crate) fn probed(
     alloc: Global,
     instance: &Instance,
     path: &Path,
+    lp: &Lp,
     x: &Frac,
     start: &Start,
     gap: i128,
@@ -64,15 +68,12 @@ pub(crate) fn probed(
     if path.conditions().len() >= DEEP {
         return Ok(first);
     }
-    let aim = Aim {
-        cost: cost_of(instance, x),
-        gap,
-    };
     let mut best = first;
-    let mut most = worth_of(alloc, instance, path, start, aim, &best, -1)?;
-    for pair in likely_pairs(alloc, instance, x)? {
-        if let Some(other) = split_by(path, pair) {
-            let worth = worth_of(alloc, instance, path, start, aim, &other, most)?;
+    let mut most = worth_of_set(alloc, instance, path, x, start, gap, &best)?;
+    let mut trial = lp.trial(alloc)?;
+    for place in likely_columns(alloc, instance, lp, x)? {
+        if let Some(other) = split_by(path, lp, place) {
+            let worth = worth_of_pair(&mut trial, place, gap, most)?;
             if worth > most {
                 best = other;
                 most = worth;
@@ -82,20 +83,61 @@ pub(crate) fn probed(
     Ok(best)
 }
 
-/// The split by a pair, if it is an undecided pair of cities.
-fn split_by(path: &Path, pair: (u32, u32)) -> Option<Branch>
+/// The split by the pair of a column, if it is an undecided pair of cities.
+fn split_by(path: &Path, lp: &Lp, place: usize) -> Option<Branch>
     ensures split { IfSome result (IsSplit path.now.n path.now.conditions) }
     ensures edge { IfSome result (λ b. IsEdge (branch_of b)) }
 {
-    let (u, v) = pair;
+    let column = lp.cols().get(place)?;
+    let (u, v) = (column.u, column.v);
     if u < v && v < path.n() && !decided(path, u, v) {
         return Some(Branch::Edge(u, v));
     }
     None
 }
 
-/// What a split is worth by what both children cost more, each up to what closes it: above all the lesser of both. The second child is
-/// not looked at where the split cannot be worth more than `most` any more.
+/// What the split by a column's pair is worth. The second child is not looked at where that cannot be more than `most` any more.
+fn worth_of_pair(
+    trial: &mut Trial<'_>,
+    place: usize,
+    gap: i128,
+    most: i128,
+) -> Result<i128, AllocError> {
+    let first = trial.gain(place, false, gap, PIVOTS)?.max(1);
+    if together(first, gap) <= most {
+        return Ok(most);
+    }
+    let second = trial.gain(place, true, gap, PIVOTS)?.max(1);
+    Ok(together(first, second))
+}
+
+/// What a split by a set of cities is worth; less than any other where it is by a pair, which is probed with the others.
+fn worth_of_set(
+    alloc: Global,
+    instance: &Instance,
+    path: &Path,
+    x: &Frac,
+    start: &Start,
+    gap: i128,
+    branch: &Branch,
+) -> Result<i128, AllocError>
+    requires cities { path.now.n ≡ instance.now.n }
+    requires few { length path.now.conditions < 1048576 }
+    requires split { IsSplit path.now.n path.now.conditions branch.now }
+{
+    match branch {
+        Branch::Edge(_, _) => Ok(-1),
+        Branch::Clique(_) => {
+            let aim = Aim {
+                cost: cost_of(instance, x),
+                gap,
+            };
+            worth_of(alloc, instance, path, start, aim, branch)
+        }
+    }
+}
+
+/// What a split is worth by what both children cost more, each up to what closes it: above all the lesser of both.
 fn worth_of(
     alloc: Global,
     instance: &Instance,
@@ -103,16 +145,12 @@ fn worth_of(
     start: &Start,
     aim: Aim,
     branch: &Branch,
-    most: i128,
 ) -> Result<i128, AllocError>
     requires cities { path.now.n ≡ instance.now.n }
     requires few { length path.now.conditions < 1048576 }
     requires split { IsSplit path.now.n path.now.conditions branch.now }
 {
     let first = gain_of(alloc, instance, path, start, aim, first_of(alloc, branch)?)?;
-    if together(first, aim.gap) <= most {
-        return Ok(most);
-    }
     let second = gain_of(alloc, instance, path, start, aim, second_of(alloc, branch)?)?;
     Ok(together(first, second))
 }
@@ -184,34 +222,45 @@ fn cost_of(instance: &Instance, x: &Frac) -> i128 {
     cost
 }
 
-/// The pairs to probe: those whose values are nearest to a half and that are long, the first ones.
-fn likely_pairs(
+/// The columns to probe: those whose values are nearest to a half and whose pairs are long, the first ones.
+fn likely_columns(
     alloc: Global,
     instance: &Instance,
+    lp: &Lp,
     x: &Frac,
-) -> Result<Vec<(u32, u32)>, AllocError> {
+) -> Result<Vec<usize>, AllocError> {
     let mut keys = Vec::new(alloc);
-    for entry in x.entries() {
-        if entry.x.abs_diff(HALF) < FAR {
-            keys.push((dislike(instance, *entry), entry.u, entry.v))?;
+    for (place, column) in lp.cols().iter().enumerate() {
+        let value = value_at(x, column);
+        if value.abs_diff(HALF) < FAR {
+            keys.push((dislike(instance, column, value), place))?;
         }
     }
     keys.sort_unstable();
     keys.truncate(FEW);
-    let mut pairs = Vec::with_capacity(alloc, FEW)?;
-    for (_, u, v) in keys {
-        pairs.push((u, v))?;
+    let mut places = Vec::with_capacity(alloc, FEW)?;
+    for (_, place) in keys {
+        places.push(place)?;
     }
-    Ok(pairs)
+    Ok(places)
+}
+
+/// The value of a column, 0 where there are no such cities.
+fn value_at(x: &Frac, column: &Column) -> u32 {
+    if column.u < x.n() && column.v < x.n() {
+        x.x(column.u, column.v)
+    } else {
+        0
+    }
 }
 
 /// How little a pair is liked: by how far its value is from a half, less what its length counts.
-fn dislike(instance: &Instance, entry: Entry) -> i64 {
+fn dislike(instance: &Instance, column: &Column, value: u32) -> i64 {
     let n = instance.n();
     let mut length: u32 = 0;
-    if entry.u < n && entry.v < n {
-        length = instance.d(entry.u, entry.v);
+    if column.u < n && column.v < n {
+        length = instance.d(column.u, column.v);
     }
     let doublings = i64::from((u64::from(length) + 1).ilog2());
-    i64::from(entry.x.abs_diff(HALF)) - doublings * LONGER
+    i64::from(value.abs_diff(HALF)) - doublings * LONGER
 }

@@ -10,10 +10,12 @@ ghost use Rattle.worker.specs.Works.{cliques};
 ghost use Rattle.sepblos.specs.Violated.{IsWorth};
 ghost use Rattle.grunt.specs.Missed.{MissesNoCut};
 ghost use Rattle.grunt.specs.Whys.{MissesNone, LacksNothing, LacksNothingOdd};
+ghost use Rattle.grunt.specs.Odds.{AnswersOdd};
 ghost use Rattle.grunt.specs.Rounds.{IsBegun, IsLook, HasGrown, HasEnded};
 
 use crate::ages::Ages;
 use crate::boxes::{fetched_cuts, share_all};
+use crate::efforts::solves_of;
 use crate::missed::missed_cuts;
 use crate::odd::{Asked, OddSearch};
 use crate::proposals::handles_of;
@@ -27,7 +29,7 @@ use simplex::{Lp, LpAnswer};
 use std::alloc::{AllocError, Global};
 use tspdef::bound_is_below;
 use tspinst::Instance;
-use worker::OddAnswer;
+use worker::{Effort, OddAnswer};
 
 /// How many rounds a node has.
 pub(crate) const ROUNDS: u32 = 200;
@@ -51,6 +53,7 @@ pub(crate) struct Look {
 /// Each round but the last adds a row that the values missed or a column of negative reduced cost, so that the next solve
 /// counts as a round of the program too. Where many cuts are slack for long, a program without them takes the node's place, from
 /// the same basis on: its rounds begin anew, and what is said of rounds in the end is said of that program, from which nothing is taken off any more.
+/// What the solves of such former programs cost is added to `spent`.
 #[tactic(auto, using(crate::proofs::RowLemmas::begun_ready, crate::proofs::RowLemmas::grown_ready))]
 pub(crate) fn rounds<B: CutBox>(
     alloc: Global,
@@ -59,6 +62,7 @@ pub(crate) fn rounds<B: CutBox>(
     path: &Path,
     wanted: u64,
     node: &mut NodeLp,
+    spent: &mut Effort,
 ) -> Result<(Look, OddAnswer), AllocError>
     requires cities { path.now.n ≡ instance.now.n }
     requires few { length path.now.conditions ≤ 2 ^ 22 }
@@ -75,7 +79,9 @@ pub(crate) fn rounds<B: CutBox>(
         if let Some(closing) = closing_look(alloc, instance, path, wanted, node)? {
             return Ok((closing, OddAnswer::NotAsked));
         }
+        let solves = solves_of(node);
         if purge(alloc, instance, path, node, &mut ages, purges)? {
+            *spent = spent.and(solves);
             purges -= 1;
             continue;
         }
@@ -215,11 +221,60 @@ fn grow<B: CutBox>(
     ensures same { IfOk result (λ end. IfSome end (λ _. node.new ≡ node.old)) }
     ensures full { IfOk result (λ end. IfSome end (LacksNothingOdd instance.now path.now.conditions node.old.program)) }
 {
-    let early = odd.early_cuts(alloc, node.lp())?;
-    if !early.is_empty() {
-        add_all(alloc, shared, node, early)?;
+    match odd.early(alloc, node.lp())? {
+        Some(asked) => grow_as_asked(alloc, instance, shared, path, node, asked),
+        None => grow_and_ask(alloc, instance, shared, path, node, odd),
+    }
+}
+
+/// The same where the search for odd cuts was asked first.
+fn grow_as_asked<B: CutBox>(
+    alloc: Global,
+    instance: &Instance,
+    shared: &mut B,
+    path: &Path,
+    node: &mut NodeLp,
+    asked: Asked,
+) -> Result<Option<OddAnswer>, AllocError>
+    requires node { IsNodeLp instance.now path.now.conditions node.old }
+    requires clean { IsClean node.old.program }
+    requires room { length node.old.program.rows + 4096 ≤ 4194304 }
+    requires cuts { All (IsCut node.old.program.n) asked.cuts.items }
+    requires missed { All (IsMissed node.old.program) asked.cuts.items }
+    requires few { length asked.cuts.items ≤ 4096 }
+    requires solved { 1 ≤ length asked.cuts.items → HasSolved node.old.program.last }
+    requires answer { length asked.cuts.items ≡ 0 → AnswersOdd node.old.program.last asked.answer }
+    ensures grown { IfOk result (λ end. end ≡ None → HasGrown instance.now path.now.conditions node.old node.new) }
+    ensures same { IfOk result (λ end. IfSome end (λ _. node.new ≡ node.old)) }
+    ensures full { IfOk result (λ end. IfSome end (LacksNothingOdd instance.now path.now.conditions node.old.program)) }
+{
+    let Asked { cuts, answer } = asked;
+    if !cuts.is_empty() {
+        add_all(alloc, shared, node, cuts)?;
         return Ok(None);
     }
+    if grow_plainly(alloc, instance, shared, path, node)? {
+        return Ok(None);
+    }
+    Ok(Some(answer))
+}
+
+/// The same where the search for odd cuts is asked last.
+fn grow_and_ask<B: CutBox>(
+    alloc: Global,
+    instance: &Instance,
+    shared: &mut B,
+    path: &Path,
+    node: &mut NodeLp,
+    odd: &mut OddSearch,
+) -> Result<Option<OddAnswer>, AllocError>
+    requires node { IsNodeLp instance.now path.now.conditions node.old }
+    requires clean { IsClean node.old.program }
+    requires room { length node.old.program.rows + 4096 ≤ 4194304 }
+    ensures grown { IfOk result (λ end. end ≡ None → HasGrown instance.now path.now.conditions node.old node.new) }
+    ensures same { IfOk result (λ end. IfSome end (λ _. node.new ≡ node.old)) }
+    ensures full { IfOk result (λ end. IfSome end (LacksNothingOdd instance.now path.now.conditions node.old.program)) }
+{
     if grow_plainly(alloc, instance, shared, path, node)? {
         return Ok(None);
     }

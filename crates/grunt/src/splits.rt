@@ -104,7 +104,7 @@ fn branch_at(
 {
     let chosen = chosen(alloc, path, lp)?;
     match left {
-        Some(start) => probed(alloc, instance, path, values(lp), start, gap, chosen),
+        Some(start) => probed(alloc, instance, path, lp, values(lp), start, gap, chosen),
         None => Ok(chosen),
     }
 }

@@ -16,7 +16,7 @@ use pricer::{Report, needed};
 use std::alloc::{AllocError, Global};
 use std::sync::{Arc, Mutex};
 use tspinst::Instance;
-use worker::{Work, Worker, first_look, level, paths_are_short};
+use worker::{Effort, Work, Worker, first_look, level, paths_are_short};
 
 /// The worker that closes a node by the duals of a linear program, and splits it only where that is solved to the end.
 ///
@@ -102,7 +102,8 @@ impl Worker for LpWorker {
 /// node's rows and of a core of near pairs is solved; its duals close the node if the bound that they give over all pairs
 /// suffices for the level; if not, cuts that the values miss are added: those that the box gives, or, where it gives none, those that
 /// separation finds (subtour cuts of light sets, blossoms and combs), or, where the values miss none, undecided pairs of negative
-/// reduced cost. Each cut that is added is put into the box too. Where there is nothing to add, the tour to which the values lead is
+/// reduced cost, or, where there is none, odd cuts that an exact search finds, which then comes first in the next round. Each cut that is
+/// added is put into the box too. Where there is nothing to add, the tour to which the values lead is
 /// improved and offered; if the duals do not close the node for that tour either, the node is split, and the program is
 /// handed out with the reason.
 ///
@@ -160,8 +161,10 @@ pub(crate) fn work_from<B: CutBox>(
         return Ok((work, None));
     }
     let mut node = begin(alloc, instance, near, path, start)?;
-    let (newest, odd) = rounds(alloc, instance, shared, path, level(best, gap), &mut node)?;
-    let programs = effort_of(&node);
+    let mut spent = Effort::none();
+    let wanted = level(best, gap);
+    let (newest, odd) = rounds(alloc, instance, shared, path, wanted, &mut node, &mut spent)?;
+    let programs = effort_of(&node).and(spent);
     let left = left_by(alloc, &node, &newest, level(best, gap))?;
     let mut work = settle(
         alloc,

@@ -4,5 +4,5 @@ use Rattle.treebook.specs.Tree.{branch_of}
 use Rattle.worker.specs.Splits.{IsEdge}
 use Rattle.grunt.proofs.probes.probed.Given as goal
 
-abbrev pub invariant-loop-pair : goal.invariant-loop-pair
-invariant-loop-pair l = IsSplit l.path.n l.path.conditions l.best × (l.path.n < 6 → IsEdge (branch_of l.best))
+abbrev pub invariant-loop-place : goal.invariant-loop-place
+invariant-loop-place l = IsSplit l.path.n l.path.conditions l.best × (l.path.n < 6 → IsEdge (branch_of l.best))
