@@ -15,7 +15,7 @@ use simplex::{Lp, LpAnswer};
 use std::alloc::{AllocError, Global};
 use tspinst::Instance;
 
-/// The tour to which the newest values lead, improved, if it has the fixed pairs, is shorter than the best length, and the answer
+/// The tour to which the newest values lead, improved with a kick for each city, if it has the fixed pairs, is shorter than the best length, and the answer
 /// is Solved; and the lesser of its length and the best.
 pub(crate) fn shorter_tour(
     alloc: Global,
@@ -38,7 +38,7 @@ pub(crate) fn shorter_tour(
             if !holds_fixed(alloc, instance, &walk)? {
                 return Ok((None, best));
             }
-            let tour = improve(alloc, instance, near, &walk, 0, seed)?;
+            let tour = improve(alloc, instance, near, &walk, instance.n(), seed)?;
             Ok(if_shorter(instance, tour, best))
         }
         _ => Ok((None, best)),
