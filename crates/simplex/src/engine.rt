@@ -59,13 +59,11 @@ struct Structural {
     value: i64,
 }
 
-/// What pricing knows of a column: its reduced cost, and its entry in the pivot row.
+/// What pricing knows of a column: its reduced cost, and where it stands.
 #[derive(Clone, Copy)]
 struct Priced {
     reduced_cost: i64,
-    pivot_entry: i64,
     state: State,
-    in_pivot_row: bool,
 }
 
 /// The slack of a row: what its sum lacks to the right side.
@@ -112,8 +110,10 @@ pub struct Engine {
     rho: Vec<i64>,
     // a list by rows, for the while
     work: Vec<i64>,
-    // the columns with an entry in the pivot row
-    pivot_row: Vec<u32>,
+    // the pivot row: an entry for each column
+    pivot_row: Vec<i64>,
+    // the columns out of the basis whose entry there is not 0
+    pivot_columns: Vec<u32>,
     breakpoints: Vec<Breakpoint>,
     // the columns that go over to their other bound
     flips: Vec<u32>,
@@ -143,6 +143,7 @@ impl Engine {
             rho: Vec::new(alloc),
             work: Vec::new(alloc),
             pivot_row: Vec::new(alloc),
+            pivot_columns: Vec::new(alloc),
             breakpoints: Vec::new(alloc),
             flips: Vec::new(alloc),
             duals: Vec::new(alloc),

@@ -62,14 +62,13 @@ impl Engine {
         })?;
         self.priced.push(Priced {
             reduced_cost: 0,
-            pivot_entry: 0,
             state: if column.must {
                 State::Fixed
             } else {
                 State::AtLower
             },
-            in_pivot_row: false,
         })?;
+        self.pivot_row.push(0)?;
         Ok(())
     }
 

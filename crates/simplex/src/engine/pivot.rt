@@ -141,7 +141,7 @@ impl Engine {
         if let Some(to) = self.rho.get_mut(place) {
             *to = ONE;
         }
-        self.factors.btran(&mut self.rho);
+        self.factors.btran_leaving(&mut self.rho);
     }
 
     fn clear_work(&mut self) {
@@ -170,7 +170,7 @@ impl Engine {
             }
             Variable::Gone => {}
         }
-        self.factors.ftran(&mut self.work);
+        self.factors.ftran_entering(&mut self.work);
     }
 
     /// Puts the columns of `flips` at their other bounds, and moves the values of the basic variables.
@@ -289,11 +289,11 @@ impl Engine {
 
     /// Moves the reduced costs by a dual step along the pivot row.
     fn update_reduced_costs(&mut self, dual_step: i64) {
-        for place in &self.pivot_row {
+        for place in &self.pivot_columns {
             if let Some(priced) = self.priced.get_mut(*place as usize) {
                 priced.reduced_cost = priced
                     .reduced_cost
-                    .wrapping_sub(mul(dual_step, priced.pivot_entry));
+                    .wrapping_sub(mul(dual_step, at(&self.pivot_row, *place)));
             }
         }
         for (slack, entry) in self.slacks.iter_mut().zip(&self.rho) {
@@ -342,7 +342,7 @@ impl Engine {
         self.put(leaving.variable, state, dual_step.wrapping_neg());
         let reciprocal = div(ONE, entry);
         self.update_basis(primal_step, reciprocal, leaving.weight);
-        self.factors.push_eta(narrow(place), &self.work)?;
+        self.factors.push_update(narrow(place), entry)?;
         if let Some(to) = self.basis.get_mut(place) {
             to.variable = entering;
             to.value = bounds.value.wrapping_add(primal_step);

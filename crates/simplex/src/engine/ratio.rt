@@ -4,10 +4,11 @@
 //! the slope of the lower side falls by the size of the column's entry in the pivot row times its range; as long as it stays
 //! positive the column goes over to its other bound and the dual step grows on. The variable at which it would not enters:
 //! the bound flipping ratio test. (Maros 2003; Kirillova, Gabasov and Kostyukova 1979.)
+use super::factors::at;
 use super::numbers::{ONE, is_less_ratio, mul};
 use super::tolerances::{FAR, INFEASIBILITY, LEAST_ROW_ENTRY};
 use super::{Breakpoint, Engine, State, Variable};
-use lpcheck::Cells;
+use lpcheck::{Cell, Cells};
 use std::alloc::AllocError;
 
 /// Whether a variable may enter: its entry in the pivot row, seen in the direction in which the leaving variable is to change,
@@ -37,48 +38,53 @@ fn dual_slack(state: State, reduced_cost: i64) -> i64 {
     signed.max(0)
 }
 
+/// Adds so many times the cells of a row to a list, an entry for each column.
+#[inline]
+fn add_cells(list: &mut [i64], cells: &[Cell], times: i64) {
+    for cell in cells {
+        if let Some(to) = list.get_mut(cell.column as usize) {
+            *to = to.wrapping_add(i64::from(cell.coef).wrapping_mul(times));
+        }
+    }
+}
+
 impl Engine {
-    /// The pivot row: what each column has of `rho`.
+    /// The pivot row: what each column has of `rho`. O(cells of the rows that `rho` meets, and columns).
     pub fn price(&mut self, table: &[Cells]) -> Result<(), AllocError> {
-        self.clear_pivot_row();
+        for entry in self.pivot_row.iter_mut() {
+            *entry = 0;
+        }
         for (factor, cells) in self.rho.iter().zip(table) {
             if *factor != 0 {
-                for cell in cells.list() {
-                    if let Some(priced) = self.priced.get_mut(cell.column as usize) {
-                        if priced.state != State::Basic {
-                            if !priced.in_pivot_row {
-                                priced.in_pivot_row = true;
-                                self.pivot_row.push(cell.column)?;
-                            }
-                            let part = i64::from(cell.coef).wrapping_mul(*factor);
-                            priced.pivot_entry = priced.pivot_entry.wrapping_add(part);
-                        }
-                    }
-                }
+                add_cells(&mut self.pivot_row, cells.list(), *factor);
             }
+        }
+        self.list_pivot_columns()
+    }
+
+    /// Lists the columns out of the basis with an entry in the pivot row.
+    fn list_pivot_columns(&mut self) -> Result<(), AllocError> {
+        self.pivot_columns.clear();
+        let mut place: u32 = 0;
+        for (entry, priced) in self.pivot_row.iter().zip(&self.priced) {
+            if *entry != 0 && priced.state != State::Basic {
+                self.pivot_columns.push(place)?;
+            }
+            place = place.wrapping_add(1);
         }
         Ok(())
     }
 
-    pub(super) fn clear_pivot_row(&mut self) {
-        for place in &self.pivot_row {
-            if let Some(priced) = self.priced.get_mut(*place as usize) {
-                priced.in_pivot_row = false;
-                priced.pivot_entry = 0;
-            }
-        }
-        self.pivot_row.clear();
-    }
-
     /// Lists the columns that may enter.
     fn list_columns(&mut self, up: bool) -> Result<(), AllocError> {
-        for place in &self.pivot_row {
+        for place in &self.pivot_columns {
+            let pivot_entry = at(&self.pivot_row, *place);
             if let Some(priced) = self.priced.get(*place as usize) {
-                if may_enter(priced.state, priced.pivot_entry, up) {
+                if may_enter(priced.state, pivot_entry, up) {
                     self.breakpoints.push(Breakpoint {
                         variable: Variable::Column(*place),
                         reduced_cost: dual_slack(priced.state, priced.reduced_cost),
-                        pivot_entry: priced.pivot_entry.wrapping_abs(),
+                        pivot_entry: pivot_entry.wrapping_abs(),
                         range: ONE,
                     })?;
                 }

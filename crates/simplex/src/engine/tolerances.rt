@@ -21,6 +21,9 @@ pub const PIVOT_THRESHOLD: u32 = 3;
 /// The basis is factored anew after 64 pivots: then solving by the etas costs about as much as by the triangles.
 pub const MOST_PIVOTS: usize = 64;
 
+/// Numbers of an update up to 2^-29 are taken for what rounding leaves of zeros.
+pub const NOISE: i64 = 8;
+
 /// It is factored anew where more rows than so many came since.
 pub const MOST_NEW_ROWS: usize = 48;
 

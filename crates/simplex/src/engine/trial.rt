@@ -1,6 +1,6 @@
 //! Trials: what it would cost to hold a column at one of its bounds, by some pivots on a copy of the engine.
 //!
-//! The copy is factored once. Each trial goes on from there by etas alone and is undone by dropping them, so it costs its pivots and a
+//! The copy is factored once. Each trial goes on from there by updates alone and is undone by dropping them, so it costs its pivots and a
 //! pass over the lists (strong branching: Applegate, Bixby, Chvátal and Cook, "The Traveling Salesman Problem", 2006, chapter 14).
 use super::lists::narrow;
 use super::numbers::ONE;
@@ -68,7 +68,6 @@ impl Engine {
         copy.cost_shift = self.cost_shift;
         copy.gone = copied_columns(alloc, &self.gone)?;
         copy.gone_pair = self.gone_pair;
-        copy.clear_pivot_row();
         copy.refactor(alloc)?;
         Ok(copy)
     }
@@ -101,8 +100,7 @@ impl Engine {
         for (to, from) in self.structurals.iter_mut().zip(&stand.values) {
             to.value = *from;
         }
-        self.pivot_row.clear();
-        self.factors.forget_etas();
+        self.factors.forget_pivots();
     }
 
     /// What the columns cost at their values, in units.
@@ -153,7 +151,7 @@ impl Engine {
         }
     }
 
-    /// At most so many pivots, as far as the factors take their etas: false where no values meet the rows.
+    /// At most so many pivots, as far as the factors take their updates: false where no values meet the rows.
     fn descend(&mut self, table: &[Cells], pivots: u32) -> Result<bool, AllocError> {
         for _ in 0..pivots {
             if self.factors.is_full() {
