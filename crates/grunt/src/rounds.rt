@@ -14,7 +14,7 @@ ghost use Rattle.grunt.specs.Odds.{AnswersOdd};
 ghost use Rattle.grunt.specs.Rounds.{IsBegun, IsLook, HasGrown, HasEnded};
 
 use crate::ages::Ages;
-use crate::boxes::{fetched_cuts, share_all};
+use crate::boxes::{Turn, share_all};
 use crate::efforts::solves_of;
 use crate::missed::missed_cuts;
 use crate::odd::{Asked, OddSearch};
@@ -74,6 +74,7 @@ pub(crate) fn rounds<B: CutBox>(
     let mut ages = Ages::new(alloc);
     let mut purges = PURGES;
     let mut odd = OddSearch::new();
+    let mut turn = Turn::first();
     while node.lp().rounds() < ROUNDS - 1 {
         solve(alloc, node)?;
         if let Some(closing) = closing_look(alloc, instance, path, wanted, node)? {
@@ -85,7 +86,7 @@ pub(crate) fn rounds<B: CutBox>(
             purges -= 1;
             continue;
         }
-        if let Some(answer) = grow(alloc, instance, shared, path, node, &mut odd)? {
+        if let Some(answer) = grow(alloc, instance, shared, path, node, &mut odd, &mut turn)? {
             return Ok((newest_look(alloc, instance, path, node)?, answer));
         }
     }
@@ -213,6 +214,7 @@ fn grow<B: CutBox>(
     path: &Path,
     node: &mut NodeLp,
     odd: &mut OddSearch,
+    turn: &mut Turn,
 ) -> Result<Option<OddAnswer>, AllocError>
     requires node { IsNodeLp instance.now path.now.conditions node.old }
     requires clean { IsClean node.old.program }
@@ -222,8 +224,8 @@ fn grow<B: CutBox>(
     ensures full { IfOk result (λ end. IfSome end (LacksNothingOdd instance.now path.now.conditions node.old.program)) }
 {
     match odd.early(alloc, node.lp())? {
-        Some(asked) => grow_as_asked(alloc, instance, shared, path, node, asked),
-        None => grow_and_ask(alloc, instance, shared, path, node, odd),
+        Some(asked) => grow_as_asked(alloc, instance, shared, path, node, asked, turn),
+        None => grow_and_ask(alloc, instance, shared, path, node, odd, turn),
     }
 }
 
@@ -235,6 +237,7 @@ fn grow_as_asked<B: CutBox>(
     path: &Path,
     node: &mut NodeLp,
     asked: Asked,
+    turn: &mut Turn,
 ) -> Result<Option<OddAnswer>, AllocError>
     requires node { IsNodeLp instance.now path.now.conditions node.old }
     requires clean { IsClean node.old.program }
@@ -253,7 +256,7 @@ fn grow_as_asked<B: CutBox>(
         add_all(alloc, shared, node, cuts)?;
         return Ok(None);
     }
-    if grow_plainly(alloc, instance, shared, path, node)? {
+    if grow_plainly(alloc, instance, shared, path, node, turn)? {
         return Ok(None);
     }
     Ok(Some(answer))
@@ -267,6 +270,7 @@ fn grow_and_ask<B: CutBox>(
     path: &Path,
     node: &mut NodeLp,
     odd: &mut OddSearch,
+    turn: &mut Turn,
 ) -> Result<Option<OddAnswer>, AllocError>
     requires node { IsNodeLp instance.now path.now.conditions node.old }
     requires clean { IsClean node.old.program }
@@ -275,7 +279,7 @@ fn grow_and_ask<B: CutBox>(
     ensures same { IfOk result (λ end. IfSome end (λ _. node.new ≡ node.old)) }
     ensures full { IfOk result (λ end. IfSome end (LacksNothingOdd instance.now path.now.conditions node.old.program)) }
 {
-    if grow_plainly(alloc, instance, shared, path, node)? {
+    if grow_plainly(alloc, instance, shared, path, node, turn)? {
         return Ok(None);
     }
     let Asked { cuts, answer } = odd.asked(alloc, node.lp())?;
@@ -293,6 +297,7 @@ fn grow_plainly<B: CutBox>(
     shared: &mut B,
     path: &Path,
     node: &mut NodeLp,
+    turn: &mut Turn,
 ) -> Result<bool, AllocError>
     requires node { IsNodeLp instance.now path.now.conditions node.old }
     requires clean { IsClean node.old.program }
@@ -301,7 +306,7 @@ fn grow_plainly<B: CutBox>(
     ensures same { IfOk result (λ more. more ≡ false → node.new ≡ node.old) }
     ensures full { IfOk result (λ more. more ≡ false → LacksNothing instance.now path.now.conditions node.old.program) }
 {
-    let missed = newly_missed(alloc, instance, shared, node.lp(), node.cuts())?;
+    let missed = newly_missed(alloc, instance, shared, node.lp(), node.cuts(), turn)?;
     if missed.is_empty() {
         return node.add_negative(alloc, instance, path);
     }
@@ -329,7 +334,7 @@ fn add_all<B: CutBox>(
     node.add_cuts(alloc, cuts)
 }
 
-/// Cuts that the newest values miss by 2^10 units or more, if the newest answer is Solved: those of the box, or else those of the
+/// Cuts that the newest values miss by 2^10 units or more, if the newest answer is Solved: those of the box where it is its turn, or else those of the
 /// separations, none only where they miss no cut of these. The handles of the cuts that are there are tried too.
 fn newly_missed<B: CutBox>(
     alloc: Global,
@@ -337,6 +342,7 @@ fn newly_missed<B: CutBox>(
     shared: &mut B,
     lp: &Lp,
     there: &[(Cut, u32)],
+    turn: &mut Turn,
 ) -> Result<Vec<Cut>, AllocError>
     requires cities { lp.now.n ≡ instance.now.n }
     requires clean { IsClean lp.now }
@@ -347,25 +353,28 @@ fn newly_missed<B: CutBox>(
     ensures none { IfOk result (λ cuts. length cuts.items ≡ 0 → MissesNone lp.now.last) }
 {
     match lp.last() {
-        Some(LpAnswer::Solved { x, .. }) => fetched_or_found(alloc, instance, shared, x, there),
+        Some(LpAnswer::Solved { x, .. }) => fetched_or_found(
+            alloc, instance, shared, x, there, turn,
+        ),
         _ => Ok(Vec::new(alloc)),
     }
 }
 
-/// Cuts that the values miss by 2^10 units or more: those of the box, or else those of the separations.
+/// Cuts that the values miss by 2^10 units or more: those of the box where it is its turn, or else those of the separations.
 fn fetched_or_found<B: CutBox>(
     alloc: Global,
     instance: &Instance,
     shared: &mut B,
     x: &Frac,
     there: &[(Cut, u32)],
+    turn: &mut Turn,
 ) -> Result<Vec<Cut>, AllocError>
     requires cities { x.now.n ≡ instance.now.n }
     ensures worth { IfOk result (λ cuts. All (IsWorth x.now) cuts.items) }
     ensures few { IfOk result (λ cuts. length cuts.items ≤ 4096) }
     ensures none { IfOk result (λ cuts. length cuts.items ≡ 0 → MissesNoCut x.now) }
 {
-    let fetched = fetched_cuts(alloc, shared, x)?;
+    let fetched = turn.fetched(alloc, shared, x)?;
     if !fetched.is_empty() {
         return Ok(fetched);
     }

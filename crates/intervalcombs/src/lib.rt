@@ -18,7 +18,7 @@ use crate::alike::best_of_alike;
 use crate::handles::{Ground, combs_of};
 use crate::intervals::Intervals;
 use crate::programming::{Step, room};
-use crate::support::Support;
+pub use crate::support::{Arm, Support};
 use cutform::Cut;
 use cyc::{CitySet, Frac, Tour};
 use fracgraph::components;

@@ -6,8 +6,8 @@ use Rattle.grunt.specs.Rounds.{HasGrown}
 use Rattle.grunt.proofs.RowLemmas.{begun_ready, grown_ready}
 use Rattle.grunt.proofs.rounds.rounds.Goals as goal
 
-pub loop-alloc-init : goal.loop-alloc-init
-loop-alloc-init g c = begun_ready c.args.instance.now c.args.path.now.conditions c.args.node.now c.requires.begun
+pub loop-turn-init : goal.loop-turn-init
+loop-turn-init g c = begun_ready c.args.instance.now c.args.path.now.conditions c.args.node.now c.requires.begun
 
 pub grow-requires-clause-clean : goal.grow-requires-clause-clean
 grow-requires-clause-clean g c = subst (λ (m : Node). IsClean m.program) (sym (c.in_ok-purge.ensures.same c.if-branch.false)) c.in_ok-solve.ensures.clean
@@ -17,15 +17,15 @@ newest_look-requires-clause-clean g c =
     let same : c.grow.new.node ≡ c.purge.new.node = subst (λ o. IfSome o (λ _. c.grow.new.node ≡ c.purge.new.node)) c.in-Some-2.is c.in_ok-answer.ensures.same in
     subst (λ (m : Node). IsClean m.program) (sym (same ∙ c.in_ok-purge.ensures.same c.if-branch.false)) c.in_ok-solve.ensures.clean
 
-pub loop-alloc-preserved : goal.loop-alloc-preserved
-loop-alloc-preserved g c =
+pub loop-turn-preserved : goal.loop-turn-preserved
+loop-turn-preserved g c =
     let i = c.args.instance.now in
     let path = c.args.path.now.conditions in
-    let before = c.loop-alloc.node in
+    let before = c.loop-turn.node in
     let same = c.in_ok-purge.ensures.same c.if-branch.false in
     let now : c.rounds.result ≡ before.program.rounds = c.rounds.ensures ∙ ap (λ (p : Program). p.rounds) c.lp.ensures in
-    let test = c.loop-alloc-test.true in
+    let test = c.loop-turn-test.true in
     let few : before.program.rounds < 199 = omega (arith, now, test) in
     let more = c.in_default-2.is in
-    grown_ready i path before c.solve.new.node c.grow.new.node c.loop-alloc.invariant few c.in_ok-solve.ensures.rounds c.in_ok-solve.ensures.rows
+    grown_ready i path before c.solve.new.node c.grow.new.node c.loop-turn.invariant few c.in_ok-solve.ensures.rounds c.in_ok-solve.ensures.rows
     (subst (λ (m : Node). HasGrown i path m c.grow.new.node) same (c.in_ok-answer.ensures.grown more))

@@ -1,5 +1,5 @@
 use Rattle.std.proofs.Common.{◌<◌, length}
-use Rattle.grunt.proofs.walk.next_place.Given as goal
+use Rattle.grunt.proofs.walk.most_drawn.Given as goal
 
 abbrev pub invariant-loop-place : goal.invariant-loop-place
 invariant-loop-place l = l.best < length l.rest
