@@ -3,6 +3,7 @@ ghost use Rattle.std.specs.Prelude.{◌≡◌, ◌≢◌, ℕ, ◌≤◌, ◌↔
 ghost use Rattle.std.specs.Ordering.{nat_cmp, eq_by_cmp, as_partial_cmp};
 ghost use Rattle.std.specs.Cmp.Lexicographic.{slice_cmp};
 ghost use Rattle.std.specs.Hash as fed;
+ghost use Rattle.std.specs.Arc.{arc_value};
 ghost use Rattle.tspdef.specs.Sets.{IsProper};
 ghost use Rattle.tspdef.specs.Cuts.{subtour, comb, odd, cities_of, sets_of, right_side, coefficient, IsComb, IsOdd, IsCut, HoldsOf, cut_cmp};
 ghost use Rattle.tspdef.specs.Instances.{Instance, IsTourOf};
@@ -19,6 +20,7 @@ use std::alloc::{AllocError, Global};
 use std::cmp::Ordering;
 use std::hash::{Hash, Hasher};
 use std::marker::Model;
+use std::sync::Arc;
 
 /// What a cut is.
 #[derive(Clone, Copy, Debug, PartialEq, Eq)]
@@ -32,12 +34,14 @@ pub enum Kind {
 }
 
 /// A cut of n cities. Contracts see its kind, n, its sets and its pairs as one value, and equal cuts are one value.
+///
+/// Copies share their sets: a cut found at one node of a search goes into a pool, the programs of other nodes and the proof of each.
 #[derive(Debug, Drop)]
 pub struct Cut {
     kind: Kind,
     n: u32,
     // a comb's handle, then its teeth; an odd cut's handle
-    sets: Vec<CitySet>,
+    sets: Arc<Vec<CitySet>, Global>,
     // the pairs of an odd cut
     pairs: Vec<(u32, u32)>,
 }
@@ -48,9 +52,11 @@ impl Model for Cut {
 
     ghost Value = { cuts.Cut };
 
-    ghost view = { λ c. cut_of c.kind c.n (cities_of_each c.sets.items) c.pairs.items };
+    ghost use Rattle.std.specs.Arc.{arc_value};
 
-    ghost invariant = { λ c. MakeCut c.kind c.n (cities_of_each c.sets.items) c.pairs.items };
+    ghost view = { λ c. cut_of c.kind c.n (cities_of_each (arc_value c.sets).items) c.pairs.items };
+
+    ghost invariant = { λ c. MakeCut c.kind c.n (cities_of_each (arc_value c.sets).items) c.pairs.items };
 }
 
 impl Cut {
@@ -70,7 +76,7 @@ impl Cut {
         Ok(Cut {
             kind: Kind::Subtour,
             n,
-            sets,
+            sets: shared(alloc, sets)?,
             pairs: Vec::new(alloc),
         })
     }
@@ -89,7 +95,7 @@ impl Cut {
         Ok(Cut {
             kind: Kind::Comb,
             n,
-            sets,
+            sets: shared(alloc, sets)?,
             pairs: Vec::new(alloc),
         })
     }
@@ -108,19 +114,19 @@ impl Cut {
         Ok(Cut {
             kind: Kind::Odd,
             n,
-            sets,
+            sets: shared(alloc, sets)?,
             pairs,
         })
     }
 
-    /// An equal cut.
+    /// An equal cut, in O(pairs of an odd cut): the sets are shared.
     pub fn copy(&self, alloc: Global) -> Result<Cut, AllocError>
         ensures { IfOk result (λ c. c ≡ self.now) }
     {
         Ok(Cut {
             kind: self.kind,
             n: self.n,
-            sets: copy_sets(alloc, &self.sets)?,
+            sets: Arc::try_clone(&self.sets)?,
             pairs: Vec::from_slice(alloc, &self.pairs)?,
         })
     }
@@ -146,7 +152,7 @@ impl Cut {
     pub fn sets(&self) -> &[CitySet]
         ensures { cities_of_each result.now ≡ wide_sets self.now }
     {
-        &self.sets
+        listed(&self.sets)
     }
 
     /// The pairs of an odd cut, in rising order; none of a cut of another kind.
@@ -160,7 +166,7 @@ impl Cut {
     pub fn all_sets(&self, alloc: Global) -> Result<Vec<CitySet>, AllocError>
         ensures { IfOk result (λ v. cities_of_each v.items ≡ sets_of self.now) }
     {
-        let sets = copy_sets(alloc, &self.sets)?;
+        let sets = copy_sets(alloc, listed(&self.sets))?;
         with_pairs(alloc, self.n, sets, &self.pairs)
     }
 
@@ -171,7 +177,7 @@ impl Cut {
     {
         match self.kind {
             Kind::Subtour => 2,
-            Kind::Comb => 3 * (self.sets.len() as u32 - 1) + 1,
+            Kind::Comb => 3 * (listed(&self.sets).len() as u32 - 1) + 1,
             Kind::Odd => 3 * self.pairs.len() as u32 + 1,
         }
     }
@@ -182,7 +188,7 @@ impl Cut {
         ensures bound { result ≤ 3999 }
         ensures few { kind_of self.now ≢ Kind.Odd → result ≤ 3 }
     {
-        crossed_sets(&self.sets, u, v) + crossed_pairs(&self.pairs, u, v)
+        crossed_sets(listed(&self.sets), u, v) + crossed_pairs(&self.pairs, u, v)
     }
 }
 
@@ -240,7 +246,7 @@ impl Ord for Cut {
         if order.is_ne() {
             return order;
         }
-        compare_sets(&self.sets, &other.sets)
+        compare_sets(listed(&self.sets), listed(&other.sets))
             .then(compare_pairs(&self.pairs, &other.pairs))
             .then(self.n.cmp(&other.n))
     }
@@ -255,7 +261,7 @@ impl Hash for Cut {
 
     fn hash<H: Hasher>(&self, state: &mut H) {
         state.write_u8(rank(self.kind));
-        hash_sets(&self.sets, state);
+        hash_sets(listed(&self.sets), state);
         hash_pairs(&self.pairs, state);
         self.n.hash(state);
     }
@@ -307,6 +313,22 @@ fn hash_sets<H: Hasher>(sets: &[CitySet], state: &mut H)
     for set in sets {
         set.cities().hash(state);
     }
+}
+
+// The list of shared sets.
+#[inline]
+fn listed(sets: &Arc<Vec<CitySet>, Global>) -> &[CitySet]
+    ensures { result.now ≡ (arc_value sets.now).items }
+{
+    &**sets
+}
+
+// Sets that copies of a cut share.
+fn shared(alloc: Global, sets: Vec<CitySet>) -> Result<Arc<Vec<CitySet>, Global>, AllocError>
+    ensures { IfOk result (λ a. arc_value a ≡ sets) }
+{
+    let sets = Arc::new(alloc, sets)?;
+    Ok(sets)
 }
 
 fn copy_sets(alloc: Global, sets: &[CitySet]) -> Result<Vec<CitySet>, AllocError>

@@ -21,6 +21,10 @@ use simplex::{Lp, LpAnswer};
 use std::alloc::{AllocError, Global};
 use worker::OddAnswer;
 
+/// How many pairs a cut that the search met has at most for it to come in. A handle of half of all cities is crossed by hundreds, and such a long row slows
+/// each solve down by more than it saves rounds; the least of all comes in however long it is.
+const LONGEST: usize = 100;
+
 /// How the search for odd cuts goes on from round to round.
 #[derive(Drop)]
 pub(crate) struct OddSearch {
@@ -84,17 +88,17 @@ impl OddSearch {
         ensures few { IfOk result (λ a. length a.cuts.items ≤ 4096) }
         ensures answer { IfOk result (λ a. length a.cuts.items ≡ 0 → IsAnswer x.now a.answer) }
     {
-        let newest = cut_down(alloc, x)?;
-        if let Some(half_way) = half_way(alloc, &self.mean, &newest)? {
+        if let Some(half_way) = half_way(alloc, self.mean.take(), x)? {
             let cuts = met_at(alloc, x, &half_way)?;
-            self.mean = Some(half_way);
             if !cuts.is_empty() {
+                self.mean = Some(half_way);
                 return Ok(Asked {
                     cuts,
                     answer: OddAnswer::NotAsked,
                 });
             }
         }
+        let newest = cut_down(alloc, x)?;
         let asked = exactly(alloc, x, &newest)?;
         self.mean = Some(newest);
         Ok(asked)
@@ -121,7 +125,19 @@ fn met_at(alloc: Global, x: &Frac, other: &Frac) -> Result<Vec<Cut>, AllocError>
         return Ok(Vec::new(alloc));
     }
     let found = odd_cuts(alloc, other)?;
-    sifted(alloc, x, found.met)
+    let met = short(alloc, found.met)?;
+    sifted(alloc, x, met)
+}
+
+/// Those of some cuts that are not too long.
+fn short(alloc: Global, cuts: Vec<Cut>) -> Result<Vec<Cut>, AllocError> {
+    let mut kept = Vec::with_capacity(alloc, cuts.len())?;
+    for cut in cuts {
+        if cut.pairs().len() <= LONGEST {
+            kept.push(cut)?;
+        }
+    }
+    Ok(kept)
 }
 
 /// The odd cuts that the search meets at values cut down to one length and that the values as they are violate, or else its answer.
@@ -137,6 +153,7 @@ fn exactly(alloc: Global, x: &Frac, newest: &Frac) -> Result<Asked, AllocError>
     let OddCuts { least, met } = odd_cuts(alloc, newest)?;
     match least {
         Some(least) => {
+            let met = short(alloc, met)?;
             let cuts = worth_of_all(alloc, x, &least.cut, met)?;
             Ok(Asked {
                 cuts,
@@ -196,14 +213,15 @@ fn lowered(alloc: Global, entries: &[Entry]) -> Result<Vec<Entry>, AllocError>
     Ok(all)
 }
 
-/// Values half-way between the mean of former ones, if there is one, and the newest.
-fn half_way(alloc: Global, mean: &Option<Frac>, newest: &Frac) -> Result<Option<Frac>, AllocError> {
+/// Values half-way between the mean of former ones, if there is one, and the newest, of which none counts for more than one length. The mean is let go
+/// of: a table of all pairs is its greatest part.
+fn half_way(alloc: Global, mean: Option<Frac>, newest: &Frac) -> Result<Option<Frac>, AllocError> {
     let Some(mean) = mean else {
         return Ok(None);
     };
     let mut entries = Vec::with_capacity(alloc, newest.entries().len())?;
-    add_halves(&mut entries, newest, mean)?;
-    add_halves_left(&mut entries, newest, mean)?;
+    add_halves(&mut entries, newest, &mean)?;
+    add_halves_left(&mut entries, newest, &mean)?;
     match Frac::new(alloc, newest.n(), entries) {
         Ok(values) => Ok(Some(values)),
         Err(FracError::BadEntry(_)) => Ok(None),
@@ -219,7 +237,7 @@ fn add_halves(entries: &mut Vec<Entry>, newest: &Frac, mean: &Frac) -> Result<()
             entries.push(Entry {
                 u: entry.u,
                 v: entry.v,
-                x: (entry.x / 2).saturating_add(other / 2),
+                x: (entry.x.min(SCALE) / 2).saturating_add(other / 2),
             })?;
         }
     }

@@ -4,7 +4,8 @@ ghost use Rattle.tspdef.specs.Instances.{Instance as TheInstance};
 ghost use Rattle.tspdef.specs.Paths.{Condition};
 ghost use Rattle.tspdef.specs.Bounds as bounds;
 ghost use Rattle.tspdef.specs.Cuts.{IsCut};
-ghost use Rattle.nodelp.specs.Node.{IsNodeLp, IsClean, HasSolved, IsMissed};
+ghost use Rattle.nodelp.specs.Node.{IsNodeLp, IsClean, HasSolved, IsMissed, IsPriced};
+ghost use Rattle.nodelp.specs.Duals.{newest_duals};
 ghost use Rattle.simplex.specs.Lp.{is_counted};
 ghost use Rattle.worker.specs.Works.{cliques};
 ghost use Rattle.sepblos.specs.Violated.{IsWorth};
@@ -19,7 +20,7 @@ use crate::efforts::solves_of;
 use crate::missed::missed_cuts;
 use crate::odd::{Asked, OddSearch};
 use crate::proposals::handles_of;
-use branchx::Path;
+use branchx::{Cond, Path};
 use cutform::Cut;
 use cutpool::CutBox;
 use cyc::Frac;
@@ -39,6 +40,9 @@ pub(crate) const SCALE: i128 = 1 << 20;
 
 /// How often cuts are taken off at most.
 const PURGES: u32 = 20;
+
+/// How many cuts are added at once at most.
+const MANY: usize = 4096;
 
 /// What a solve shows: the closing of its duals, and its bound.
 #[derive(Drop)]
@@ -84,6 +88,9 @@ pub(crate) fn rounds<B: CutBox>(
         if purge(alloc, instance, path, node, &mut ages, purges)? {
             *spent = spent.and(solves);
             purges -= 1;
+            continue;
+        }
+        if price_after_purge(alloc, instance, path, node, purges)? {
             continue;
         }
         if let Some(answer) = grow(alloc, instance, shared, path, node, &mut odd, &mut turn)? {
@@ -206,6 +213,50 @@ fn newest_look(
     Ok(Look { closing, bound })
 }
 
+/// Adds undecided pairs of negative reduced cost in the first round after a purge, and says whether there were any. The duals are then those of a program
+/// that had many rounds, so pairs come in before more cuts are found for values that lack them.
+fn price_after_purge(
+    alloc: Global,
+    instance: &Instance,
+    path: &Path,
+    node: &mut NodeLp,
+    left: u32,
+) -> Result<bool, AllocError>
+    requires node { IsNodeLp instance.now path.now.conditions node.old }
+    requires clean { IsClean node.old.program }
+    ensures grown { IfOk result (λ more. more ≡ true → HasGrown instance.now path.now.conditions node.old node.new) }
+    ensures same { IfOk result (λ more. more ≡ false → node.new ≡ node.old) }
+{
+    if left == PURGES || node.lp().rounds() > 1 {
+        return Ok(false);
+    }
+    price(alloc, instance, path, node)
+}
+
+/// Adds undecided pairs of negative reduced cost, and says whether there were any.
+fn price(
+    alloc: Global,
+    instance: &Instance,
+    path: &Path,
+    node: &mut NodeLp,
+) -> Result<bool, AllocError>
+    requires node { IsNodeLp instance.now path.now.conditions node.old }
+    requires clean { IsClean node.old.program }
+    ensures grown { IfOk result (λ more. more ≡ true → HasGrown instance.now path.now.conditions node.old node.new) }
+    ensures same { IfOk result (λ more. more ≡ false → node.new ≡ node.old) }
+    ensures priced { IfOk result (λ more. more ≡ false → IsPriced instance.now path.now.conditions node.old.program (newest_duals node.old.program.last)) }
+{
+    node.add_negative(alloc, instance, path)
+}
+
+/// Whether a path is that of the root, which has the fixed pairs of its instance alone.
+fn is_root(path: &Path) -> bool {
+    match path.conditions().last() {
+        Some(Cond::Fixed(..)) | None => true,
+        Some(_) => false,
+    }
+}
+
 /// Adds what a node's newest answer lacks; where that is nothing, what the search for odd cuts answered.
 fn grow<B: CutBox>(
     alloc: Global,
@@ -223,10 +274,66 @@ fn grow<B: CutBox>(
     ensures same { IfOk result (λ end. IfSome end (λ _. node.new ≡ node.old)) }
     ensures full { IfOk result (λ end. IfSome end (LacksNothingOdd instance.now path.now.conditions node.old.program)) }
 {
+    if is_root(path) {
+        return grow_by_all(alloc, instance, shared, path, node, odd, turn);
+    }
     match odd.early(alloc, node.lp())? {
         Some(asked) => grow_as_asked(alloc, instance, shared, path, node, asked, turn),
         None => grow_and_ask(alloc, instance, shared, path, node, odd, turn),
     }
+}
+
+/// The same at the root, where each round adds what all searches find: as it begins without cuts, it has the most rounds of all nodes, and other threads
+/// wait for its children.
+fn grow_by_all<B: CutBox>(
+    alloc: Global,
+    instance: &Instance,
+    shared: &mut B,
+    path: &Path,
+    node: &mut NodeLp,
+    odd: &mut OddSearch,
+    turn: &mut Turn,
+) -> Result<Option<OddAnswer>, AllocError>
+    requires node { IsNodeLp instance.now path.now.conditions node.old }
+    requires clean { IsClean node.old.program }
+    requires room { length node.old.program.rows + 4096 ≤ 4194304 }
+    ensures grown { IfOk result (λ end. end ≡ None → HasGrown instance.now path.now.conditions node.old node.new) }
+    ensures same { IfOk result (λ end. IfSome end (λ _. node.new ≡ node.old)) }
+    ensures full { IfOk result (λ end. IfSome end (LacksNothingOdd instance.now path.now.conditions node.old.program)) }
+{
+    let missed = newly_missed(alloc, instance, shared, node.lp(), node.cuts(), turn, true)?;
+    let Asked { cuts, answer } = odd.asked(alloc, node.lp())?;
+    let all = with_others(node.lp(), cuts, missed)?;
+    if !all.is_empty() {
+        add_all(alloc, shared, node, all)?;
+        return Ok(None);
+    }
+    if price(alloc, instance, path, node)? {
+        return Ok(None);
+    }
+    Ok(Some(answer))
+}
+
+/// Cuts that a program's newest answer misses, and others that it misses after them: the first 4,096.
+fn with_others(_lp: &Lp, cuts: Vec<Cut>, others: Vec<Cut>) -> Result<Vec<Cut>, AllocError>
+    requires cuts { All (IsCut _lp.now.n) cuts.items }
+    requires missed { All (IsMissed _lp.now) cuts.items }
+    requires solved { 1 ≤ length cuts.items → HasSolved _lp.now.last }
+    requires other_cuts { All (IsCut _lp.now.n) others.items }
+    requires others_missed { All (IsMissed _lp.now) others.items }
+    requires others_solved { 1 ≤ length others.items → HasSolved _lp.now.last }
+    ensures cuts { IfOk result (λ all. All (IsCut _lp.now.n) all.items) }
+    ensures missed { IfOk result (λ all. All (IsMissed _lp.now) all.items) }
+    ensures few { IfOk result (λ all. length all.items ≤ 4096) }
+    ensures solved { IfOk result (λ all. 1 ≤ length all.items → HasSolved _lp.now.last) }
+    ensures none { IfOk result (λ all. length all.items ≡ 0 → length cuts.items ≡ 0) }
+    ensures no_others { IfOk result (λ all. length all.items ≡ 0 → length others.items ≡ 0) }
+{
+    let mut all = cuts;
+    let mut rest = others;
+    all.append(&mut rest)?;
+    all.truncate(MANY);
+    Ok(all)
 }
 
 /// The same where the search for odd cuts was asked first.
@@ -306,9 +413,9 @@ fn grow_plainly<B: CutBox>(
     ensures same { IfOk result (λ more. more ≡ false → node.new ≡ node.old) }
     ensures full { IfOk result (λ more. more ≡ false → LacksNothing instance.now path.now.conditions node.old.program) }
 {
-    let missed = newly_missed(alloc, instance, shared, node.lp(), node.cuts(), turn)?;
+    let missed = newly_missed(alloc, instance, shared, node.lp(), node.cuts(), turn, false)?;
     if missed.is_empty() {
-        return node.add_negative(alloc, instance, path);
+        return price(alloc, instance, path, node);
     }
     add_all(alloc, shared, node, missed)?;
     Ok(true)
@@ -334,8 +441,8 @@ fn add_all<B: CutBox>(
     node.add_cuts(alloc, cuts)
 }
 
-/// Cuts that the newest values miss by 2^10 units or more, if the newest answer is Solved: those of the box where it is its turn, or else those of the
-/// separations, none only where they miss no cut of these. The handles of the cuts that are there are tried too.
+/// Cuts that the newest values miss by 2^10 units or more, if the newest answer is Solved: those of the box where it is its turn, and where there are none or all
+/// are asked for those of the separations, none only where they miss no cut of these. The handles of the cuts that are there are tried too.
 fn newly_missed<B: CutBox>(
     alloc: Global,
     instance: &Instance,
@@ -343,6 +450,7 @@ fn newly_missed<B: CutBox>(
     lp: &Lp,
     there: &[(Cut, u32)],
     turn: &mut Turn,
+    by_all: bool,
 ) -> Result<Vec<Cut>, AllocError>
     requires cities { lp.now.n ≡ instance.now.n }
     requires clean { IsClean lp.now }
@@ -354,13 +462,14 @@ fn newly_missed<B: CutBox>(
 {
     match lp.last() {
         Some(LpAnswer::Solved { x, .. }) => fetched_or_found(
-            alloc, instance, shared, x, there, turn,
+            alloc, instance, shared, x, there, turn, by_all,
         ),
         _ => Ok(Vec::new(alloc)),
     }
 }
 
-/// Cuts that the values miss by 2^10 units or more: those of the box where it is its turn, or else those of the separations.
+/// Cuts that the values miss by 2^10 units or more: those of the box where it is its turn, and where there are none or all are asked for those of the
+/// separations after them.
 fn fetched_or_found<B: CutBox>(
     alloc: Global,
     instance: &Instance,
@@ -368,16 +477,20 @@ fn fetched_or_found<B: CutBox>(
     x: &Frac,
     there: &[(Cut, u32)],
     turn: &mut Turn,
+    by_all: bool,
 ) -> Result<Vec<Cut>, AllocError>
     requires cities { x.now.n ≡ instance.now.n }
     ensures worth { IfOk result (λ cuts. All (IsWorth x.now) cuts.items) }
     ensures few { IfOk result (λ cuts. length cuts.items ≤ 4096) }
     ensures none { IfOk result (λ cuts. length cuts.items ≡ 0 → MissesNoCut x.now) }
 {
-    let fetched = turn.fetched(alloc, shared, x)?;
-    if !fetched.is_empty() {
-        return Ok(fetched);
+    let mut cuts = turn.fetched(alloc, shared, x)?;
+    if !by_all && !cuts.is_empty() {
+        return Ok(cuts);
     }
     let known = handles_of(alloc, there)?;
-    missed_cuts(alloc, instance, x, &known)
+    let mut found = missed_cuts(alloc, instance, x, &known)?;
+    cuts.append(&mut found)?;
+    cuts.truncate(MANY);
+    Ok(cuts)
 }

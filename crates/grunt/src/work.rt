@@ -102,8 +102,8 @@ impl Worker for LpWorker {
 /// node's rows and of a core of near pairs is solved; its duals close the node if the bound that they give over all pairs
 /// suffices for the level; if not, cuts that the values miss are added: those that the box gives, or, where it gives none, those that
 /// separation finds (subtour cuts of light sets, blossoms and combs), or, where the values miss none, undecided pairs of negative
-/// reduced cost, or, where there is none, odd cuts that an exact search finds, which then comes first in the next round. Each cut that is
-/// added is put into the box too. Where there is nothing to add, the tour to which the values lead is
+/// reduced cost, or, where there is none, odd cuts that an exact search finds, which then comes first in the next round. At the root
+/// each round asks the box, separation and the search for odd cuts. Each cut that is added is put into the box too. Where there is nothing to add, the tour to which the values lead is
 /// improved and offered; if the duals do not close the node for that tour either, the node is split, and the program is
 /// handed out with the reason.
 ///

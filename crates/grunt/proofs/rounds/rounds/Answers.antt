@@ -9,20 +9,24 @@ use Rattle.grunt.proofs.rounds.rounds.Goals as goal
 pub loop-turn-init : goal.loop-turn-init
 loop-turn-init g c = begun_ready c.args.instance.now c.args.path.now.conditions c.args.node.now c.requires.begun
 
+pub price_after_purge-requires-clause-clean : goal.price_after_purge-requires-clause-clean
+price_after_purge-requires-clause-clean g c = subst (λ (m : Node). IsClean m.program) (sym (c.in_ok-purge.ensures.same c.if-branch.false)) c.in_ok-solve.ensures.clean
+
 pub grow-requires-clause-clean : goal.grow-requires-clause-clean
-grow-requires-clause-clean g c = subst (λ (m : Node). IsClean m.program) (sym (c.in_ok-purge.ensures.same c.if-branch.false)) c.in_ok-solve.ensures.clean
+grow-requires-clause-clean g c =
+    subst (λ (m : Node). IsClean m.program) (sym (c.in_ok-price_after_purge.ensures.same c.if-branch-2.false ∙ c.in_ok-purge.ensures.same c.if-branch.false)) c.in_ok-solve.ensures.clean
 
 pub newest_look-requires-clause-clean : goal.newest_look-requires-clause-clean
 newest_look-requires-clause-clean g c =
-    let same : c.grow.new.node ≡ c.purge.new.node = subst (λ o. IfSome o (λ _. c.grow.new.node ≡ c.purge.new.node)) c.in-Some-2.is c.in_ok-answer.ensures.same in
-    subst (λ (m : Node). IsClean m.program) (sym (same ∙ c.in_ok-purge.ensures.same c.if-branch.false)) c.in_ok-solve.ensures.clean
+    let same : c.grow.new.node ≡ c.price_after_purge.new.node = subst (λ o. IfSome o (λ _. c.grow.new.node ≡ c.price_after_purge.new.node)) c.in-Some-2.is c.in_ok-answer.ensures.same in
+    subst (λ (m : Node). IsClean m.program) (sym (same ∙ c.in_ok-price_after_purge.ensures.same c.if-branch-2.false ∙ c.in_ok-purge.ensures.same c.if-branch.false)) c.in_ok-solve.ensures.clean
 
 pub loop-turn-preserved : goal.loop-turn-preserved
 loop-turn-preserved g c =
     let i = c.args.instance.now in
     let path = c.args.path.now.conditions in
     let before = c.loop-turn.node in
-    let same = c.in_ok-purge.ensures.same c.if-branch.false in
+    let same = c.in_ok-price_after_purge.ensures.same c.if-branch-2.false ∙ c.in_ok-purge.ensures.same c.if-branch.false in
     let now : c.rounds.result ≡ before.program.rounds = c.rounds.ensures ∙ ap (λ (p : Program). p.rounds) c.lp.ensures in
     let test = c.loop-turn-test.true in
     let few : before.program.rounds < 199 = omega (arith, now, test) in

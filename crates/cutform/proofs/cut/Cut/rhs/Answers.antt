@@ -1,4 +1,5 @@
-use Rattle.std.proofs.Common.{arith}
+use Rattle.std.proofs.Common.{arith, ap, List, length}
+use Rattle.std.specs.Arc.{arc_value}
 use Rattle.std.proofs.lemmas.List.{length-map}
 use Rattle.cyc.specs.CitySet.{Members}
 use Rattle.cutform.proofs.PartLemmas.{fields_wide}
@@ -6,13 +7,13 @@ use Rattle.cutform.proofs.CombLemmas.{made-met}
 use Rattle.cutform.proofs.cut.Cut.rhs.Goals as goal
 
 pub overflow_cast-result : goal.overflow_cast-result
-overflow_cast-result c = let few = fields_wide _ _ _ _ c.args.self.now c.self.invariant c.self.view_is in omega (arith, length-map c.self.inside.sets.items (λ (s : Members). s.cities))
+overflow_cast-result c = let few = fields_wide _ _ _ _ c.args.self.now c.self.invariant c.self.view_is in let l = ap (λ (xs : List Members). length xs) c.listed.ensures in omega (arith, l, length-map (arc_value c.self.inside.sets).items (λ (s : Members). s.cities))
 
 pub overflow_mul-result : goal.overflow_mul-result
-overflow_mul-result c = let few = fields_wide _ _ _ _ c.args.self.now c.self.invariant c.self.view_is in omega (arith, length-map c.self.inside.sets.items (λ (s : Members). s.cities))
+overflow_mul-result c = let few = fields_wide _ _ _ _ c.args.self.now c.self.invariant c.self.view_is in let l = ap (λ (xs : List Members). length xs) c.listed.ensures in omega (arith, l, length-map (arc_value c.self.inside.sets).items (λ (s : Members). s.cities))
 
 pub overflow_add-result : goal.overflow_add-result
-overflow_add-result c = let few = fields_wide _ _ _ _ c.args.self.now c.self.invariant c.self.view_is in omega (arith, length-map c.self.inside.sets.items (λ (s : Members). s.cities))
+overflow_add-result c = let few = fields_wide _ _ _ _ c.args.self.now c.self.invariant c.self.view_is in let l = ap (λ (xs : List Members). length xs) c.listed.ensures in omega (arith, l, length-map (arc_value c.self.inside.sets).items (λ (s : Members). s.cities))
 
 pub returns-in-Subtour-clause-met : goal.returns-in-Subtour-clause-met
 returns-in-Subtour-clause-met c = made-met _ _ _ _ c.args.self.now c.self.invariant c.self.view_is
