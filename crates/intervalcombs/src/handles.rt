@@ -3,7 +3,8 @@ ghost use Rattle.std.specs.Prelude.{◌≡◌, ◌≤◌, All, IfOk, IfSome};
 ghost use Rattle.sepblos.specs.Violated.{IsWorth};
 
 use crate::intervals::{Intervals, ONE};
-use crate::programming::{Step, Tooth, go_along, teeth_back};
+use crate::programming::{Tooth, go_along, teeth_back};
+use crate::room::Room;
 use crate::support::Support;
 use cutform::Cut;
 use cyc::{CitySet, Frac};
@@ -27,92 +28,58 @@ pub(crate) struct Ground {
 }
 
 /// The combs of a handle, and of the handle with a city of its border more: for each the intervals as teeth that the values miss by
-/// most, where they miss it. O(n + intervals) for each, and O(entries * sets) for one that is missed.
+/// most, where they miss it. O(pairs of its cities, and places and intervals near its turns) for each, and O(n * sets + entries * sets)
+/// for one that is missed.
 pub(crate) fn combs_of(
     alloc: Global,
     x: &Frac,
     ground: &Ground,
     handle: &CitySet,
-    steps: &mut [Step],
+    room: &mut Room,
 ) -> Result<Vec<Cut>, AllocError>
     ensures { IfOk result (λ cuts. All (IsWorth x.now) cuts.items) }
 {
     let mut cuts = Vec::new(alloc);
-    let mut inside = vec![in alloc; false; x.n() as usize]?;
-    mark(&mut inside, handle.cities());
-    if let Some(cut) = comb_of(alloc, x, ground, &inside, steps)? {
+    room.take(handle.cities())?;
+    if let Some(cut) = comb_of(alloc, x, ground, room)? {
         cuts.push(cut)?;
     }
-    let border = border(alloc, &ground.support, ground.intervals.order(), &inside)?;
+    let border = border(alloc, ground, room)?;
     for city in &border {
-        set_mark(&mut inside, *city, true);
-        if let Some(cut) = comb_of(alloc, x, ground, &inside, steps)? {
+        room.join(*city)?;
+        if let Some(cut) = comb_of(alloc, x, ground, room)? {
             cuts.push(cut)?;
         }
-        set_mark(&mut inside, *city, false);
+        room.leave();
     }
     Ok(cuts)
 }
 
-/// Sets or takes away the mark of a city.
-fn set_mark(marks: &mut [bool], city: u32, value: bool) {
-    if let Some(mark) = marks.get_mut(city as usize) {
-        *mark = value;
-    }
-}
-
-/// The comb of the cities with marks as the handle, and of intervals as teeth, that the values miss by most, where they do.
+/// The comb of the handle, and of intervals as teeth, that the values miss by most, where they do.
 fn comb_of(
     alloc: Global,
     x: &Frac,
     ground: &Ground,
-    inside: &[bool],
-    steps: &mut [Step],
+    room: &mut Room,
 ) -> Result<Option<Cut>, AllocError>
     ensures { IfOk result (λ c. IfSome c (IsWorth x.now)) }
 {
-    let crossing = crossing(&ground.support, ground.intervals.order(), inside);
-    let worth = go_along(&ground.intervals, inside, steps);
-    if !is_enough(worth, crossing) {
+    room.find_turns(&ground.intervals)?;
+    let end = go_along(&ground.intervals, &room.turns, &mut room.steps);
+    if !is_enough(end.worth(), room.crossing(&ground.support)) {
         return Ok(None);
     }
     let n = x.n();
-    let back = teeth_back(alloc, steps)?;
+    let back = teeth_back(alloc, &room.steps, end)?;
     let teeth = tooth_sets(alloc, n, &ground.intervals, &back)?;
-    let handle = marked_set(alloc, n, inside)?;
+    let handle = marked_set(alloc, n, &room.inside)?;
     let cut = violated_comb(alloc, x, &handle, teeth)?;
     Ok(cut)
 }
 
 /// Whether teeth are worth more than their handle costs.
-fn is_enough(worth: Option<i64>, crossing: i64) -> bool {
-    match worth {
-        Some(worth) => worth >= crossing.wrapping_sub(ONE).wrapping_add(WORTH),
-        None => false,
-    }
-}
-
-/// The crossing weight of those of some cities that have marks, if the others have none.
-fn crossing(support: &Support, cities: &[u32], inside: &[bool]) -> i64 {
-    let mut weight: i64 = 0;
-    for city in cities {
-        if is_marked(inside, *city) {
-            weight = weight.wrapping_add(leaving(support, *city, inside));
-        }
-    }
-    weight
-}
-
-/// What the pairs of a city add up to that lead to cities without marks.
-#[inline]
-fn leaving(support: &Support, city: u32, inside: &[bool]) -> i64 {
-    let mut weight: i64 = 0;
-    for arm in support.arms(city) {
-        if !is_marked(inside, arm.city) {
-            weight = weight.wrapping_add(i64::from(arm.value));
-        }
-    }
-    weight
+fn is_enough(worth: i64, crossing: i64) -> bool {
+    worth >= crossing.wrapping_sub(ONE).wrapping_add(WORTH)
 }
 
 /// The sets of teeth, the first in the order first.
@@ -143,7 +110,10 @@ fn tooth_set(
     requires few { n ≤ 2000 }
 {
     let mut marks = vec![in alloc; false; n as usize]?;
-    if let Some(cities) = intervals.order().get(tooth.from..tooth.end) {
+    if let Some(cities) = intervals
+        .order()
+        .get(tooth.from as usize..tooth.end as usize)
+    {
         mark(&mut marks, cities);
     }
     let set = marked_set(alloc, n, &marks)?;
@@ -166,17 +136,17 @@ fn marked_set(alloc: Global, n: u32, marks: &[bool]) -> Result<CitySet, AllocErr
     Ok(set)
 }
 
-/// The first few cities along an order that are outside of a handle, and that their pairs draw into it by two fifths of one length.
-fn border(
-    alloc: Global,
-    support: &Support,
-    order: &[u32],
-    inside: &[bool],
-) -> Result<Vec<u32>, AllocError> {
+/// The first few cities along the order that are outside of the handle, and that their pairs draw into it by two fifths of one length.
+fn border(alloc: Global, ground: &Ground, room: &Room) -> Result<Vec<u32>, AllocError> {
+    let places = room.joined(alloc, &ground.support, &ground.intervals)?;
     let mut cities = Vec::new(alloc);
-    for city in order {
-        if cities.len() < BORDER && is_drawn(support, *city, inside) {
-            cities.push(*city)?;
+    for place in &places {
+        let city = ground.intervals.city(*place);
+        if cities.len() < BORDER
+            && cities.last() != Some(&city)
+            && is_drawn(&ground.support, city, &room.inside)
+        {
+            cities.push(city)?;
         }
     }
     Ok(cities)

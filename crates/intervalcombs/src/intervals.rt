@@ -117,7 +117,7 @@ impl Intervals {
 
     /// The place of a city in the order.
     #[inline]
-    fn place(&self, city: u32) -> usize {
+    pub(crate) fn place(&self, city: u32) -> usize {
         match self.places.get(city as usize) {
             Some(place) => *place as usize,
             None => 0,

@@ -12,12 +12,13 @@ mod alike;
 mod handles;
 mod intervals;
 mod programming;
+mod room;
 mod support;
 
 use crate::alike::best_of_alike;
 use crate::handles::{Ground, combs_of};
 use crate::intervals::Intervals;
-use crate::programming::{Step, room};
+use crate::room::Room;
 pub use crate::support::{Arm, Support};
 use cutform::Cut;
 use cyc::{CitySet, Frac, Tour};
@@ -39,8 +40,8 @@ const MANY: usize = 1024;
 /// the one that is missed by most is given. Nothing is said of what is found but that each comb is violated: any search for cuts may
 /// miss some (Padberg and Rinaldi 1990; Letchford and Lodi 2002, on combs by dynamic programming).
 ///
-/// The intervals take O(n * longest tooth * pairs of a city) once, and each handle O(n + intervals), beside O(entries * sets) where it
-/// has a comb. Room for one step a city is kept through all handles.
+/// The intervals take O(n * longest tooth * pairs of a city) once, and each handle what its pairs, and the places and intervals near
+/// its turns cost, beside O(entries * sets) where it has a comb. Room for one step a city is kept through all handles.
 pub fn interval_combs(
     alloc: Global,
     x: &Frac,
@@ -51,19 +52,19 @@ pub fn interval_combs(
     ensures few { IfOk result (λ cuts. length cuts.items ≤ 1024) }
 {
     let ground = ground_of(alloc, x, order.cities())?;
-    let mut steps = room(alloc, order.cities().len())?;
+    let mut room = Room::of(alloc, order.cities().len())?;
     let first = handles_within(alloc, x, 0x400)?;
     let second = handles_within(alloc, x, 0x1_0000)?;
     let third = handles_within(alloc, x, 0x2_0000)?;
     let fourth = handles_within(alloc, x, 0x3_3333)?;
     let fifth = handles_within(alloc, x, 0x4_cccd)?;
     let none = Vec::new(alloc);
-    let cuts = with_combs(alloc, x, &ground, &first, &[], &mut steps, none)?;
-    let cuts = with_combs(alloc, x, &ground, &second, &first, &mut steps, cuts)?;
-    let cuts = with_combs(alloc, x, &ground, &third, &second, &mut steps, cuts)?;
-    let cuts = with_combs(alloc, x, &ground, &fourth, &third, &mut steps, cuts)?;
-    let cuts = with_combs(alloc, x, &ground, &fifth, &fourth, &mut steps, cuts)?;
-    let cuts = with_combs(alloc, x, &ground, known, &[], &mut steps, cuts)?;
+    let cuts = with_combs(alloc, x, &ground, &first, &[], &mut room, none)?;
+    let cuts = with_combs(alloc, x, &ground, &second, &first, &mut room, cuts)?;
+    let cuts = with_combs(alloc, x, &ground, &third, &second, &mut room, cuts)?;
+    let cuts = with_combs(alloc, x, &ground, &fourth, &third, &mut room, cuts)?;
+    let cuts = with_combs(alloc, x, &ground, &fifth, &fourth, &mut room, cuts)?;
+    let cuts = with_combs(alloc, x, &ground, known, &[], &mut room, cuts)?;
     let mut kept = best_of_alike(alloc, x, &ground.support, cuts)?;
     kept.truncate(MANY);
     Ok(kept)
@@ -90,7 +91,7 @@ fn with_combs(
     ground: &Ground,
     handles: &[CitySet],
     seen: &[CitySet],
-    steps: &mut [Step],
+    room: &mut Room,
     others: Vec<Cut>,
 ) -> Result<Vec<Cut>, AllocError>
     requires { All (IsWorth x.now) others.items }
@@ -99,7 +100,7 @@ fn with_combs(
     let mut cuts = others;
     for handle in handles {
         if is_new(handle, seen) {
-            let mut found = combs_of(alloc, x, ground, handle, steps)?;
+            let mut found = combs_of(alloc, x, ground, handle, room)?;
             cuts.append(&mut found)?;
         }
     }
